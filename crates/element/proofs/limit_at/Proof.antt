@@ -1,0 +1,33 @@
+use Rattle.wire.specs.Seen.{reading}
+use Rattle.element.specs.Data.{limit}
+use borrow.Author.Needs.{needs}
+use Rattle.element.proofs.limit_at.Statement.{statement}
+use Rattle.element.proofs.limit_at.Tie as tie
+
+returns : tie.Need-returns
+unfolding limit
+returns c = search reading
+
+returns-2 : tie.Need-returns-2
+unfolding limit
+returns-2 c = search reading depth 6
+
+returns-3 : tie.Need-returns-3
+unfolding limit
+returns-3 c = search reading depth 6
+
+pub limit-at-spec : {M : Type 1} → statement M
+limit-at-spec =
+    tie.close
+    (tie.spec
+    (λ c κs. search needs)
+    (λ c. search needs)
+    (λ c. search needs)
+    returns
+    (λ c κs. search needs)
+    (λ c. search needs)
+    (λ c. search needs)
+    returns-2
+    (λ c κs. search needs)
+    (λ c κs. search needs)
+    returns-3)

@@ -1,0 +1,172 @@
+// Elements: an identifier and the data of its kind.
+use kind::Kind;
+use kind::Product;
+use kind::Row;
+use wire::Fault;
+use wire::Read;
+ghost use mathlib.Core.Path.{_≡_};
+ghost use lib.ListN.{length};
+ghost use Rattle.wire.specs.Each.{each};
+ghost use Rattle.wire.specs.Seen.{seen, itself, none};
+ghost use Rattle.text.specs.Text.{word};
+ghost use Rattle.element.specs.Element.{element, named};
+ghost use Rattle.element.specs.Data.{oneZero, markerData, wordCount, wordData, sizeData, limit, dateData, dataOf};
+
+// 1, 0: the two words that most data begin with.
+fn one_zero_at(s: &[u8], at: usize) -> Read
+    ensures { λ r. ⌜ r ≡ seen none oneZero (now (s .entry)) at ⌝ }
+{
+    let a = wire::fixed_at(s, at, 1);
+    let Read::Got(_, p) = a else {
+        return a;
+    };
+    wire::fixed_at(s, p, 0)
+}
+
+fn marker_at(s: &[u8], at: usize) -> Read
+    ensures { λ r. ⌜ r ≡ seen none markerData (now (s .entry)) at ⌝ }
+{
+    let a = one_zero_at(s, at);
+    let Read::Got(_, p) = a else {
+        return a;
+    };
+    wire::fixed_at(s, p, 1)
+}
+
+// The number of words of a list.
+pub fn word_count_at(s: &[u8], at: usize) -> Read
+    ensures { λ r. ⌜ r ≡ seen itself wordCount (now (s .entry)) at ⌝ }
+{
+    let r = wire::u32_at(s, at);
+    let Read::Got(n, _) = r else {
+        return r;
+    };
+    if 64 < n {
+        return Read::No(Fault::Count, at);
+    }
+    r
+}
+
+// n words.
+pub fn words_at(s: &[u8], at: usize, n: u64) -> Read
+    ensures { λ r. ⌜ r ≡ seen none (each (λ i. word) 0 n) (now (s .entry)) at ⌝ }
+{
+    let mut i = 0;
+    let mut p = at;
+    while i < n {
+        let r = text::word_at(s, p);
+        let Read::Got(_, q) = r else {
+            return r;
+        };
+        p = q;
+        i += 1;
+    }
+    Read::Got(0, p)
+}
+
+fn word_list_at(s: &[u8], at: usize) -> Read
+    ensures { λ r. ⌜ r ≡ seen none wordData (now (s .entry)) at ⌝ }
+{
+    let c = word_count_at(s, at);
+    let Read::Got(n, p) = c else {
+        return c;
+    };
+    words_at(s, p, n)
+}
+
+fn size_at(s: &[u8], at: usize) -> Read
+    ensures { λ r. ⌜ r ≡ seen none sizeData (now (s .entry)) at ⌝ }
+{
+    let a = one_zero_at(s, at);
+    let Read::Got(_, p) = a else {
+        return a;
+    };
+    let min = wire::u32_at(s, p);
+    let Read::Got(_, q) = min else {
+        return min;
+    };
+    wire::untold(wire::u32_at(s, q))
+}
+
+// One end of a date span: flag, 0, date.
+fn limit_at(s: &[u8], at: usize) -> Read
+    ensures { λ r. ⌜ r ≡ seen none limit (now (s .entry)) at ⌝ }
+{
+    let f = wire::flag_at(s, at);
+    let Read::Got(_, p) = f else {
+        return f;
+    };
+    let z = wire::fixed_at(s, p, 0);
+    let Read::Got(_, q) = z else {
+        return z;
+    };
+    wire::untold(date::date_at(s, q))
+}
+
+fn dates_at(s: &[u8], at: usize) -> Read
+    ensures { λ r. ⌜ r ≡ seen none dateData (now (s .entry)) at ⌝ }
+{
+    let a = one_zero_at(s, at);
+    let Read::Got(_, p) = a else {
+        return a;
+    };
+    let after = limit_at(s, p);
+    let Read::Got(_, q) = after else {
+        return after;
+    };
+    limit_at(s, q)
+}
+
+// The data of a kind.
+pub fn data_at(s: &[u8], at: usize, kind: Kind) -> Read
+    ensures { λ r. ⌜ r ≡ seen none (dataOf kind) (now (s .entry)) at ⌝ }
+{
+    match kind {
+        Kind::Marker => marker_at(s, at),
+        Kind::Simple(_) => one_zero_at(s, at),
+        Kind::WordList => word_list_at(s, at),
+        Kind::Size(_) => size_at(s, at),
+        Kind::Dates(_) => dates_at(s, at),
+    }
+}
+
+// The data of a kind, of which the identifier is told.
+fn named_data_at(s: &[u8], at: usize, kind: Kind, identifier: u64) -> Read
+    ensures { λ r. ⌜ r ≡ seen (λ d. identifier) (dataOf kind) (now (s .entry)) at ⌝ }
+{
+    let d = data_at(s, at, kind);
+    let Read::Got(_, q) = d else {
+        return d;
+    };
+    Read::Got(identifier, q)
+}
+
+// The element at the start of a part; its value is its identifier.
+fn read_element(rest: &[u8], product: Product) -> Read
+    ensures { λ r. ⌜ r ≡ seen named (element product) (now (rest .entry)) 0 ⌝ }
+{
+    let r = wire::u32_at(rest, 0);
+    let Read::Got(identifier, p) = r else {
+        return r;
+    };
+    let row = kind::row_for(product, identifier);
+    match row {
+        Row::Is(kind) => named_data_at(rest, p, kind, identifier),
+        Row::No(c, _) => Read::No(c, 0),
+    }
+}
+
+// The element at a place.
+pub fn element_at(s: &[u8], at: usize, product: Product) -> Read
+    ensures { λ r. ⌜ r ≡ seen named (element product) (now (s .entry)) at ⌝ }
+{
+    if s.len() < at {
+        return Read::No(Fault::Cut, at);
+    }
+    let rest = &s[at..];
+    let r = read_element(rest, product);
+    match r {
+        Read::Got(identifier, n) => Read::Got(identifier, at + n),
+        Read::No(c, p) => Read::No(c, at + p),
+    }
+}

@@ -1,0 +1,224 @@
+-- The kinds of elements: document 01, "The deck", the table of identifiers and the two editions.
+use Prim.Native.Nat.{ℕ, zero, suc, _+_, _≤_, _<_}
+use native.Mathlib.Nat.{add-zero, zero-add}
+use native.Mathlib.Omega.{arith}
+use mathlib.Core.Path.{_≡_, refl, sym, ap, _∙_}
+use mathlib.Core.Bool.{Bool, true, false, _||_}
+use mathlib.Core.List.{List, [], _∷_, map}
+use lib.ListN.{length, getD}
+use lib.Dec.{eqb}
+use borrow.Author.Tests.{ne-eqb}
+use borrow.Author.Needs.{needs}
+use Rattle.wire.specs.declared.Fault.{Fault}
+use Rattle.wire.specs.declared.Fault.the-variants as Fault
+use Rattle.wire.specs.Format.{pick}
+use Rattle.kind.specs.declared.Product.{Product}
+use Rattle.kind.specs.declared.Product.the-variants.{Desk, Studio}
+use Rattle.kind.specs.declared.Edition.{Edition}
+use Rattle.kind.specs.declared.Edition.the-variants as Edition
+use Rattle.kind.specs.declared.Role.the-variants.{Condition, Action, Exception}
+use Rattle.kind.specs.declared.Kind.{Kind}
+use Rattle.kind.specs.declared.Kind.the-variants.{Marker, Simple, WordList, Size, Dates}
+use Rattle.kind.specs.declared.Row.{Row}
+use Rattle.kind.specs.declared.Row.the-variants.{Is, No}
+
+-- "two editions (1 Desk, 2 Studio)"
+unfoldable pub editionOf : ℕ → Edition
+editionOf n = pick (eqb n 1) (Edition.Of Desk) (pick (eqb n 2) (Edition.Of Studio) Edition.Unknown)
+
+-- the table: kind, identifiers (hex)
+abbrev pub kinds : List (Kind × List ℕ)
+kinds =
+    (Marker, 0x64 ∷ [])
+    ∷ (Simple Condition, 0xC8 ∷ 0xC9 ∷ 0xCA ∷ 0xDE ∷ 0xE2 ∷ 0xE3 ∷ 0xF5 ∷ [])
+    ∷ (Simple Action, 0x12D ∷ 0x132 ∷ 0x13A ∷ 0x13B ∷ 0x142 ∷ 0x14A ∷ 0x14C ∷ 0x14F ∷ 0x152 ∷ [])
+    ∷ (Simple Exception, 0x1F4 ∷ 0x1F5 ∷ 0x1F6 ∷ 0x208 ∷ 0x20A ∷ 0x20E ∷ 0x20F ∷ 0x216 ∷ 0x21A ∷ 0x21B ∷ [])
+    ∷ (WordList, 0x211 ∷ 0x212 ∷ 0x213 ∷ 0x219 ∷ [])
+    ∷ (Size Condition, 0xE0 ∷ [])
+    ∷ (Size Exception, 0x20C ∷ [])
+    ∷ (Dates Condition, 0xE1 ∷ [])
+    ∷ (Dates Exception, 0x20D ∷ [])
+    ∷ []
+
+-- whether a list has the number, compared whole
+unfoldable pub has : List ℕ → ℕ → Bool
+has [] n = false
+has (x ∷ xs) n = eqb n x || has xs n
+
+-- the row that has an identifier; 9 where none has
+unfoldable pub rowIn : List (Kind × List ℕ) → ℕ → Row
+rowIn [] id = No Fault.Unknown 0
+rowIn ((k, ids) ∷ rows) id = pick (has ids id) (Is k) (rowIn rows id)
+
+-- "Desk has the marker, simple conditions and simple actions"
+abbrev pub inDesk : Kind → Bool
+inDesk Marker = true
+inDesk (Simple Condition) = true
+inDesk (Simple Action) = true
+inDesk (Simple Exception) = false
+inDesk WordList = false
+inDesk (Size r) = false
+inDesk (Dates r) = false
+
+-- "Studio has all 35"
+abbrev pub inProduct : Product → Kind → Bool
+inProduct Desk k = inDesk k
+inProduct Studio k = true
+
+-- 10 where the row is not in the product
+unfoldable pub offered : Product → Row → Row
+offered p (Is k) = pick (inProduct p k) (Is k) (No Fault.Foreign 0)
+offered p (No c q) = No c q
+
+unfoldable pub rowOf : Product → ℕ → Row
+rowOf p id = offered p (rowIn kinds id)
+
+-- "An identifier alone takes an edition and answers its row of the kinds, or 1, 9 or 10 at 0"
+unfoldable pub rowBy : Edition → ℕ → Row
+rowBy (Edition.Of p) id = rowOf p id
+rowBy Edition.Unknown id = No Fault.Edition 0
+
+unfoldable pub kindOf : ℕ → ℕ → Row
+kindOf edition id = rowBy (editionOf edition) id
+
+-- ---- what a row tells
+
+-- a row is no fault
+pub apart : {B : Type 0} {r : Row} {k : Kind} {c : Fault} {q : ℕ} → r ≡ Is k → r ≡ No c q → B
+apart e h = absurd (let z : _≡_ {A = ℕ} 0 1 = cc in omega arith)
+
+-- the row of a product is the row of the table
+pub offered-is : (p : Product) (r : Row) {k : Kind} → offered p r ≡ Is k → r ≡ Is k
+unfolding offered pick
+offered-is p (No c q) e = e
+offered-is p (Is j) {k} e = go (inProduct p j) e
+  where
+    go : (b : Bool) → pick b (Is j) (No Fault.Foreign 0) ≡ Is k → Is j ≡ Is k
+    go true h = h
+    go false h = apart h refl
+
+-- what the table lacks is Unknown, and what a product lacks is Foreign
+pub lacking : (rows : List (Kind × List ℕ)) (id : ℕ) {c : Fault} {q : ℕ} → rowIn rows id ≡ No c q → c ≡ Fault.Unknown
+unfolding rowIn pick
+lacking [] id e = cc
+lacking ((k, ids) ∷ rows) id {c} {q} e = go (has ids id) (lacking rows id) e
+  where
+    go : (b : Bool) → (rowIn rows id ≡ No c q → c ≡ Fault.Unknown) → pick b (Is k) (rowIn rows id) ≡ No c q → c ≡ Fault.Unknown
+    go true f h = apart refl h
+    go false f h = f h
+
+pub foreign : (p : Product) (j : Kind) {c : Fault} {q : ℕ} → offered p (Is j) ≡ No c q → c ≡ Fault.Foreign
+unfolding offered pick
+foreign p j {c} {q} e = go (inProduct p j) e
+  where
+    go : (b : Bool) → pick b (Is j) (No Fault.Foreign 0) ≡ No c q → c ≡ Fault.Foreign
+    go true h = apart refl h
+    go false h = cc
+
+-- ---- as the code finds it
+
+module _ (p : Product) (id : ℕ) {r : Row} where
+  pub row-no : {c : Fault} {q : ℕ} → r ≡ rowIn kinds id → r ≡ No c q → r ≡ rowOf p id
+  unfolding rowOf offered
+  row-no e h = rw (← e, h)
+
+  pub row-yes : {out : Row} {k : Kind} {b : Bool} → r ≡ rowIn kinds id → r ≡ Is k → b ≡ inProduct p k → b ≡ true → out ≡ Is k → out ≡ rowOf p id
+  unfolding rowOf offered pick
+  row-yes e h f t o = rw (← e, h, ← f, t) o
+
+  pub row-foreign : {k : Kind} {b : Bool} → r ≡ rowIn kinds id → r ≡ Is k → b ≡ inProduct p k → b ≡ false → No Fault.Foreign 0 ≡ rowOf p id
+  unfolding rowOf offered pick
+  row-foreign e h f t = rw (← e, h, ← f, t)
+
+module _ (edition id : ℕ) {e : Edition} where
+  pub kind-in : {p : Product} {r : Row} → e ≡ editionOf edition → e ≡ Edition.Of p → r ≡ rowOf p id → r ≡ kindOf edition id
+  unfolding kindOf rowBy
+  kind-in f h o = rw (← f, h) o
+
+  pub kind-none : e ≡ editionOf edition → e ≡ Edition.Unknown → No Fault.Edition 0 ≡ kindOf edition id
+  unfolding kindOf rowBy
+  kind-none f h = rw (← f, h)
+
+-- the rows by small numbers, as the code's table has them
+unfoldable pub rowAt : ℕ → Row
+rowAt n =
+    pick (eqb n 1) (Is Marker)
+    (pick (eqb n 2) (Is (Simple Condition))
+    (pick (eqb n 3) (Is (Simple Action))
+    (pick (eqb n 4) (Is (Simple Exception))
+    (pick (eqb n 5) (Is WordList)
+    (pick (eqb n 6) (Is (Size Condition))
+    (pick (eqb n 7) (Is (Size Exception))
+    (pick (eqb n 8) (Is (Dates Condition))
+    (pick (eqb n 9) (Is (Dates Exception))
+    (No Fault.Unknown 0)))))))))
+
+-- and back
+unfoldable pub codeOf : Row → ℕ
+codeOf (Is Marker) = 1
+codeOf (Is (Simple Condition)) = 2
+codeOf (Is (Simple Action)) = 3
+codeOf (Is (Simple Exception)) = 4
+codeOf (Is WordList) = 5
+codeOf (Is (Size Condition)) = 6
+codeOf (Is (Size Action)) = 0
+codeOf (Is (Size Exception)) = 7
+codeOf (Is (Dates Condition)) = 8
+codeOf (Is (Dates Action)) = 0
+codeOf (Is (Dates Exception)) = 9
+codeOf (No c q) = 0
+
+-- the rows of n identifiers from i on
+unfoldable pub rowsFrom : ℕ → ℕ → List Row
+rowsFrom i zero = []
+rowsFrom i (suc n) = rowIn kinds i ∷ rowsFrom (suc i) n
+
+-- what the code's table has to hold, and its rule, one computed test for all of it
+unfoldable pub table : List ℕ
+table = map codeOf (rowsFrom 0 0x21C)
+
+rows-at : (l : List ℕ) (i k : ℕ) → map rowAt l ≡ rowsFrom i (length l) → k < length l → rowAt (getD l k 0) ≡ rowIn kinds (i + k)
+unfolding rowsFrom
+rows-at [] i k t h = absurd (omega arith)
+rows-at (x ∷ l) i zero t h = let e : rowAt x ≡ rowIn kinds i = cc in rw add-zero e
+rows-at (x ∷ l) i (suc k) t h =
+    let e : map rowAt l ≡ rowsFrom (suc i) (length l) = cc in
+    let n : suc i + k ≡ i + suc k = omega arith in
+    rw n at (rows-at l (suc i) k e (omega arith))
+
+table-right : map rowAt table ≡ rowsFrom 0 (length table)
+unfolding table codeOf rowAt rowsFrom rowIn has pick
+table-right = refl
+
+table-long : length table ≡ 0x21C
+unfolding table rowsFrom
+table-long = refl
+
+pub row-is : (id : ℕ) {r : Row} → r ≡ rowAt (getD table id 0) → id < 0x21C → r ≡ rowIn kinds id
+row-is id e h = e ∙ (rw zero-add at (rows-at table 0 id table-right (omega (arith, table-long))))
+
+-- what is not below n is in no list and in no row of numbers below n
+unfoldable pub Below : ℕ → List ℕ → Type 0
+Below n [] = Unit {0}
+Below n (x ∷ xs) = (x < n) × Below n xs
+
+unfoldable pub RowsBelow : ℕ → List (Kind × List ℕ) → Type 0
+RowsBelow n [] = Unit {0}
+RowsBelow n ((k, ids) ∷ rows) = Below n ids × RowsBelow n rows
+
+has-not : (n id : ℕ) (ids : List ℕ) → Below n ids → n ≤ id → has ids id ≡ false
+unfolding has Below
+has-not n id [] b h = refl
+has-not n id (x ∷ xs) b h = rw (ne-eqb id x (λ e. omega (arith, b .0))) (has-not n id xs (b .1) h)
+
+row-not : (n id : ℕ) (rows : List (Kind × List ℕ)) → RowsBelow n rows → n ≤ id → No Fault.Unknown 0 ≡ rowIn rows id
+unfolding rowIn RowsBelow pick
+row-not n id [] b h = refl
+row-not n id ((k, ids) ∷ rows) b h = rw (has-not n id ids (b .0) h) (row-not n id rows (b .1) h)
+
+all-below : RowsBelow 0x21C kinds
+unfolding RowsBelow Below
+all-below = search needs
+
+pub row-past : (id : ℕ) → 0x21C ≤ id → No Fault.Unknown 0 ≡ rowIn kinds id
+row-past id h = row-not 0x21C id kinds all-below h

@@ -1,0 +1,41 @@
+use Rattle.text.specs.Text.{stringLength, extended}
+use Rattle.wire.specs.Seen.{reading}
+use borrow.Author.Needs.{needs}
+use Rattle.text.proofs.length_at.Statement.{statement}
+use Rattle.text.proofs.length_at.Tie as tie
+
+returns : tie.Need-returns
+unfolding stringLength extended
+returns c = search reading
+
+returns-2 : tie.Need-returns-2
+unfolding stringLength extended
+returns-2 c = search reading
+
+returns-3 : tie.Need-returns-3
+unfolding stringLength extended
+returns-3 c = search reading depth 7
+
+returns-4 : tie.Need-returns-4
+unfolding stringLength extended
+returns-4 c = search reading depth 7
+
+returns-5 : tie.Need-returns-5
+unfolding stringLength extended
+returns-5 c = search reading depth 7
+
+pub length-at-spec : {M : Type 1} → statement M
+length-at-spec =
+    tie.close
+    (tie.spec
+    (λ c κs. search needs)
+    (λ c. search needs)
+    (λ c. search needs)
+    returns
+    returns-2
+    (λ c κs. search needs)
+    (λ c. search needs)
+    (λ c. search needs)
+    returns-3
+    returns-4
+    returns-5)

@@ -1,0 +1,56 @@
+-- Strings and words: document 01, "The deck"; source document 001, sections 2.2.2 and 2.2.3.
+use Prim.Native.Nat.{ℕ, _+_, _-_, _*_, _/_, _<_, _≤_}
+use native.Mathlib.Omega.{arith}
+use mathlib.Core.Path.{_≡_, refl, sym, ap, _∙_}
+use mathlib.Core.List.{List}
+use lib.ListN.{length, drop, length-drop}
+use lib.Dec.{eqb}
+use Rattle.wire.specs.declared.Fault.{Fault}
+use Rattle.wire.specs.declared.Fault.the-variants.{Cut, Form, Field}
+use Rattle.wire.specs.declared.Read.{Read}
+use Rattle.wire.specs.declared.Read.the-variants.{Got, No}
+use Rattle.wire.specs.Format.{Answer, got, refused, Format, pick}
+use Rattle.wire.specs.Join.{pair, via, atStart, nothing, _then_}
+use Rattle.wire.specs.Number.{number, fixed}
+use Rattle.wire.specs.Each.{each, listed}
+use Rattle.wire.specs.Seen.{seen, itself, pair-stop, pair-go, start-got, start-no}
+use Rattle.wire.specs.Rows.{listed-is, row-is, row-no}
+
+-- "a length byte": FF "means that a 2-byte length follows"; "254 units or fewer use the short form and 255 the long one"
+unfoldable pub extended : ℕ → Format (Unit {0})
+extended n = pick (eqb n 255) (fixed 2 255 Form) nothing
+
+unfoldable pub stringLength : Format ℕ
+stringLength = via (pair (number 1) extended) (λ p. p .0) (λ n. (n, tt)) (λ p f. refl)
+
+-- "and that many 16-bit units", which "are any 16-bit values"; a fault anywhere in it "answers its start"
+unfoldable pub string : Format (List ℕ)
+string = atStart (listed stringLength (number 2))
+
+-- "4 zero bytes and a String"
+unfoldable pub word : Format (List ℕ)
+word = fixed 4 0 Field then string
+
+-- ---- as the code reads it
+
+abbrev pub refusedAt : ℕ → Read → Read
+refusedAt at (Got v n) = Got v n
+refusedAt at (No c p) = No c at
+
+module _ (s : List ℕ) (at : ℕ) {l : Read} where
+  pub string-stop : {x : Read} {c : Fault} {p : ℕ} → l ≡ seen itself stringLength s at → l ≡ No c p → x ≡ refusedAt at l → x ≡ seen length string s at
+  unfolding string
+  string-stop {c = c} {p = p} e h o =
+      o ∙ ap (refusedAt at) h ∙ start-no length _ s at {r = l} {p = p} (listed-is length stringLength (number 2) s at (pair-stop _ stringLength _ s at itself e h)) h
+
+  -- its units, where there is room for them, and where there is none
+  units : {n p : ℕ} (x : Read) → l ≡ seen itself stringLength s at → l ≡ Got n p → x ≡ seen length (each (λ i. number 2) 0 n) s p → x ≡ seen length (listed stringLength (number 2)) s at
+  units x e h o = listed-is length stringLength (number 2) s at (pair-go _ stringLength _ s at e h o)
+
+  pub string-is : {n p w : ℕ} → l ≡ seen itself stringLength s at → l ≡ Got n p → w ≡ length s - p → n ≤ w / 2 → Got n (p + 2 * n) ≡ seen length string s at
+  unfolding string
+  string-is {n} {p} e h f r = start-got length _ s at {m = p + 2 * n} (units (Got n (p + 2 * n)) e h (row-is 2 s p n (omega arith))) refl
+
+  pub string-cut : {n p w : ℕ} → l ≡ seen itself stringLength s at → l ≡ Got n p → w ≡ length s - p → w / 2 < n → No Cut at ≡ seen length string s at
+  unfolding string
+  string-cut {n} {p} e h f r = let c = row-no 2 s p n (omega arith) in start-no length _ s at {p = c .0} (units (No Cut (c .0)) e h (c .1)) refl

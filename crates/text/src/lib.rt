@@ -1,0 +1,64 @@
+// Strings and words.
+use wire::Fault;
+use wire::Read;
+ghost use mathlib.Core.Path.{_≡_};
+ghost use lib.ListN.{length};
+ghost use Rattle.wire.specs.Seen.{seen, itself, none};
+ghost use Rattle.text.specs.Text.{stringLength, string, word, refusedAt};
+
+// The number of units of a String.
+fn length_at(s: &[u8], at: usize) -> Read
+    ensures { λ r. ⌜ r ≡ seen itself stringLength (now (s .entry)) at ⌝ }
+{
+    let b = wire::u8_at(s, at);
+    let Read::Got(n, p) = b else {
+        return b;
+    };
+    if n != 255 {
+        return b;
+    }
+    let w = wire::u16_at(s, p);
+    let Read::Got(m, q) = w else {
+        return w;
+    };
+    if m != 255 {
+        return Read::No(Fault::Form, p);
+    }
+    Read::Got(n, q)
+}
+
+// A String's refusal stands at its start.
+fn refused_at(r: Read, at: usize) -> Read
+    ensures { λ x. ⌜ x ≡ refusedAt at r ⌝ }
+{
+    match r {
+        Read::Got(_, _) => r,
+        Read::No(c, _) => Read::No(c, at),
+    }
+}
+
+// A String; its value is the number of its units, which end where it ends.
+pub fn string_at(s: &[u8], at: usize) -> Read
+    ensures { λ r. ⌜ r ≡ seen length string (now (s .entry)) at ⌝ }
+{
+    let l = length_at(s, at);
+    let Read::Got(n, p) = l else {
+        return refused_at(l, at);
+    };
+    let units = n as usize;
+    if wire::left(s, p) / 2 < units {
+        return Read::No(Fault::Cut, at);
+    }
+    Read::Got(n, p + 2 * units)
+}
+
+// A word; its value is the number of its String's units.
+pub fn word_at(s: &[u8], at: usize) -> Read
+    ensures { λ r. ⌜ r ≡ seen length word (now (s .entry)) at ⌝ }
+{
+    let z = wire::fixed_at(s, at, 0);
+    let Read::Got(_, p) = z else {
+        return z;
+    };
+    string_at(s, p)
+}

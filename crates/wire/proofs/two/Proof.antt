@@ -1,0 +1,11 @@
+use native.Mathlib.Omega.{arith}
+use Rattle.wire.specs.Number.{value-join}
+use borrow.Author.Needs.{needs}
+use Rattle.wire.proofs.two.Statement.{statement}
+use Rattle.wire.proofs.two.Tie as tie
+
+returns : tie.Need-returns
+returns c = (value-join 1 1 (c .before .before .before .args .s .now) (c .before .before .before .args .at) (c .before .one .ensures .0) (c .one2 .ensures .0) (omega arith), omega arith)
+
+pub two-spec : {M : Type 1} → statement M
+two-spec = tie.close (tie.spec (λ c κs. search needs) (λ c. search needs) (λ c κs. search needs) (λ c. search needs) (λ c. search needs) returns)

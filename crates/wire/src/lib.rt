@@ -1,0 +1,165 @@
+// Answers, and readers of numbers and constants at a place of a slice.
+ghost use mathlib.Core.Path.{_≡_};
+ghost use Prim.Native.Nat.{_+_, _-_, _<_, _≤_, _^_};
+ghost use lib.ListN.{length, take, drop};
+ghost use Rattle.wire.specs.Number.{value, number, fixed, flag, bit};
+ghost use Rattle.wire.specs.Seen.{seen, itself, none, toldNothing};
+ghost use Rattle.wire.specs.Fault.{numberOf};
+
+// The rows of document 01's table "Numbers a refusal gives"; specs/Fault.antt has their numbers.
+pub enum Fault {
+    Edition,
+    Long,
+    Cut,
+    Mark,
+    Version,
+    Count,
+    Form,
+    Field,
+    Unknown,
+    Foreign,
+    Date,
+    Size,
+    Over,
+}
+
+// A value with the place past it, or a fault with its place.
+pub enum Read {
+    Got(u64, usize),
+    No(Fault, usize),
+}
+
+// The number of a fault.
+pub fn number_of(fault: Fault) -> u64
+    ensures { λ r. ⌜ r ≡ numberOf fault ⌝ }
+{
+    match fault {
+        Fault::Edition => 1,
+        Fault::Long => 2,
+        Fault::Cut => 3,
+        Fault::Mark => 4,
+        Fault::Version => 5,
+        Fault::Count => 6,
+        Fault::Form => 7,
+        Fault::Field => 8,
+        Fault::Unknown => 9,
+        Fault::Foreign => 10,
+        Fault::Date => 11,
+        Fault::Size => 12,
+        Fault::Over => 13,
+    }
+}
+
+// What was read, with nothing told of it but its end.
+pub fn untold(r: Read) -> Read
+    ensures { λ x. ⌜ x ≡ toldNothing r ⌝ }
+{
+    match r {
+        Read::Got(_, n) => Read::Got(0, n),
+        Read::No(_, _) => r,
+    }
+}
+
+// The bytes at a place that has them, the lowest first: one, two, four, eight.
+fn one(s: &[u8], at: usize) -> u64
+    requires { ⌜ at + 1 ≤ length (now s) ⌝ }
+    ensures { λ r. ⌜ (r ≡ value (take 1 (drop at (now (s .entry))))) × (r < 2 ^ 8) ⌝ }
+{
+    s[at] as u64
+}
+
+fn two(s: &[u8], at: usize) -> u64
+    requires { ⌜ at + 2 ≤ length (now s) ⌝ }
+    ensures { λ r. ⌜ (r ≡ value (take 2 (drop at (now (s .entry))))) × (r < 2 ^ 16) ⌝ }
+{
+    one(s, at) + 0x100 * one(s, at + 1)
+}
+
+fn four(s: &[u8], at: usize) -> u64
+    requires { ⌜ at + 4 ≤ length (now s) ⌝ }
+    ensures { λ r. ⌜ (r ≡ value (take 4 (drop at (now (s .entry))))) × (r < 2 ^ 32) ⌝ }
+{
+    two(s, at) + 0x1_0000 * two(s, at + 2)
+}
+
+fn eight(s: &[u8], at: usize) -> u64
+    requires { ⌜ at + 8 ≤ length (now s) ⌝ }
+    ensures { λ r. ⌜ (r ≡ value (take 8 (drop at (now (s .entry))))) × (r < 2 ^ 64) ⌝ }
+{
+    four(s, at) + 0x1_0000_0000 * four(s, at + 4)
+}
+
+// How many bytes a slice has from a place on.
+pub fn left(s: &[u8], at: usize) -> usize
+    ensures { λ r. ⌜ r ≡ length (now (s .entry)) - at ⌝ }
+{
+    if s.len() < at {
+        return 0;
+    }
+    s.len() - at
+}
+
+// A number of 1, 2, 4 or 8 bytes.
+pub fn u8_at(s: &[u8], at: usize) -> Read
+    ensures { λ r. ⌜ r ≡ seen itself (number 1) (now (s .entry)) at ⌝ }
+{
+    if left(s, at) < 1 {
+        return Read::No(Fault::Cut, at);
+    }
+    Read::Got(one(s, at), at + 1)
+}
+
+pub fn u16_at(s: &[u8], at: usize) -> Read
+    ensures { λ r. ⌜ r ≡ seen itself (number 2) (now (s .entry)) at ⌝ }
+{
+    if left(s, at) < 2 {
+        return Read::No(Fault::Cut, at);
+    }
+    Read::Got(two(s, at), at + 2)
+}
+
+pub fn u32_at(s: &[u8], at: usize) -> Read
+    ensures { λ r. ⌜ r ≡ seen itself (number 4) (now (s .entry)) at ⌝ }
+{
+    if left(s, at) < 4 {
+        return Read::No(Fault::Cut, at);
+    }
+    Read::Got(four(s, at), at + 4)
+}
+
+pub fn u64_at(s: &[u8], at: usize) -> Read
+    ensures { λ r. ⌜ r ≡ seen itself (number 8) (now (s .entry)) at ⌝ }
+{
+    if left(s, at) < 8 {
+        return Read::No(Fault::Cut, at);
+    }
+    Read::Got(eight(s, at), at + 8)
+}
+
+// A field of 4 bytes that must hold v.
+pub fn fixed_at(s: &[u8], at: usize, v: u32) -> Read
+    ensures { λ r. ⌜ r ≡ seen none (fixed 4 v Fault.Field) (now (s .entry)) at ⌝ }
+{
+    let r = u32_at(s, at);
+    let Read::Got(x, p) = r else {
+        return r;
+    };
+    if x != (v as u64) {
+        return Read::No(Fault::Field, at);
+    }
+    Read::Got(0, p)
+}
+
+// A yes or no: a field of 4 bytes that must hold 0 or 1.
+pub fn flag_at(s: &[u8], at: usize) -> Read
+    ensures { λ r. ⌜ r ≡ seen bit flag (now (s .entry)) at ⌝ }
+{
+    let r = u32_at(s, at);
+    let Read::Got(x, _) = r else {
+        return r;
+    };
+    if 1 < x {
+        return Read::No(Fault::Field, at);
+    }
+    r
+}
