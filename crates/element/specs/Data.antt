@@ -3,11 +3,10 @@ use Prim.Native.Nat.{ℕ}
 use mathlib.Core.Path.{_≡_, refl}
 use mathlib.Core.Bool.{Bool, false}
 use mathlib.Core.List.{List, []}
-use lib.Dec.{leb}
 use Rattle.wire.specs.declared.Fault.the-variants as Fault
 use Rattle.wire.specs.Format.{Format}
-use Rattle.wire.specs.Join.{judged, via, seq, _then_}
-use Rattle.wire.specs.Number.{number, fixed, flag}
+use Rattle.wire.specs.Join.{via, seq, _then_}
+use Rattle.wire.specs.Number.{number, count, fixed, flag}
 use Rattle.wire.specs.Each.{listed}
 use Rattle.text.specs.Text.{word}
 use Rattle.date.specs.Date.{date}
@@ -58,8 +57,8 @@ unfoldable pub simpleData : Format Data
 simpleData = via oneZero (λ u. plain) (λ d. tt) (λ u f. refl)
 
 -- word list: "4-byte count 0 to 64, then the words"
-unfoldable pub wordCount : Format ℕ
-wordCount = judged (λ n. leb n 64) Fault.Count (number 4)
+abbrev pub wordCount : Format ℕ
+wordCount = count 4 0 64
 
 unfoldable pub wordData : Format Data
 wordData = via (listed wordCount word) words wordsOf (λ ws f. refl)

@@ -10,17 +10,17 @@ ghost use Rattle.wire.specs.Each.{each};
 ghost use Rattle.wire.specs.Seen.{seen, itself, none};
 ghost use Rattle.text.specs.Text.{word};
 ghost use Rattle.element.specs.Element.{element, named};
-ghost use Rattle.element.specs.Data.{oneZero, markerData, wordCount, wordData, sizeData, limit, dateData, dataOf};
+ghost use Rattle.element.specs.Data.{oneZero, markerData, wordData, sizeData, limit, dateData, dataOf};
 
 // 1, 0: the two words that most data begin with.
 fn one_zero_at(s: &[u8], at: usize) -> Read
     ensures { λ r. ⌜ r ≡ seen none oneZero (now (s .entry)) at ⌝ }
 {
-    let a = wire::fixed_at(s, at, 1);
+    let a = wire::fixed32_at(s, at, 1);
     let Read::Got(_, p) = a else {
         return a;
     };
-    wire::fixed_at(s, p, 0)
+    wire::fixed32_at(s, p, 0)
 }
 
 fn marker_at(s: &[u8], at: usize) -> Read
@@ -30,21 +30,7 @@ fn marker_at(s: &[u8], at: usize) -> Read
     let Read::Got(_, p) = a else {
         return a;
     };
-    wire::fixed_at(s, p, 1)
-}
-
-// The number of words of a list.
-pub fn word_count_at(s: &[u8], at: usize) -> Read
-    ensures { λ r. ⌜ r ≡ seen itself wordCount (now (s .entry)) at ⌝ }
-{
-    let r = wire::u32_at(s, at);
-    let Read::Got(n, _) = r else {
-        return r;
-    };
-    if 64 < n {
-        return Read::No(Fault::Count, at);
-    }
-    r
+    wire::fixed32_at(s, p, 1)
 }
 
 // n words.
@@ -67,7 +53,7 @@ pub fn words_at(s: &[u8], at: usize, n: u64) -> Read
 fn word_list_at(s: &[u8], at: usize) -> Read
     ensures { λ r. ⌜ r ≡ seen none wordData (now (s .entry)) at ⌝ }
 {
-    let c = word_count_at(s, at);
+    let c = wire::count32_at(s, at, 0, 64);
     let Read::Got(n, p) = c else {
         return c;
     };
@@ -96,7 +82,7 @@ fn limit_at(s: &[u8], at: usize) -> Read
     let Read::Got(_, p) = f else {
         return f;
     };
-    let z = wire::fixed_at(s, p, 0);
+    let z = wire::fixed32_at(s, p, 0);
     let Read::Got(_, q) = z else {
         return z;
     };

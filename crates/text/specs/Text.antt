@@ -13,7 +13,7 @@ use Rattle.wire.specs.Format.{Answer, got, refused, Format, pick}
 use Rattle.wire.specs.Join.{pair, via, atStart, nothing, _then_}
 use Rattle.wire.specs.Number.{number, fixed}
 use Rattle.wire.specs.Each.{each, listed}
-use Rattle.wire.specs.Seen.{seen, itself, pair-stop, pair-go, start-got, start-no}
+use Rattle.wire.specs.Seen.{seen, itself, none, told-is, via-is, pair-stop, pair-go, pick-yes, yes-eq, start-got, start-no}
 use Rattle.wire.specs.Rows.{listed-is, row-is, row-no}
 
 -- "a length byte": FF "means that a 2-byte length follows"; "254 units or fewer use the short form and 255 the long one"
@@ -36,6 +36,14 @@ word = fixed 4 0 Field then string
 abbrev pub refusedAt : ℕ → Read → Read
 refusedAt at (Got v n) = Got v n
 refusedAt at (No c p) = No c at
+
+-- the long form, whose length is told by its first byte
+pub length-long : (s : List ℕ) (at : ℕ) {b w : Read} {n p v q : ℕ} → b ≡ seen itself (number 1) s at → b ≡ Got n p → n ≡ 255 → w ≡ seen none (fixed 2 255 Form) s p → w ≡ Got v q
+    → Got n q ≡ seen itself stringLength s at
+unfolding stringLength extended
+length-long s at {n = n} {p = p} e h k f g =
+    via-is itself (pair (number 1) extended) (λ p. p .0) _ _ s at
+    (pair-go (λ p. p .0) (number 1) extended s at e h (pick-yes (λ u. n) s p (eqb n 255) (fixed 2 255 Form) nothing (yes-eq k) (told-is none (fixed 2 255 Form) s p (λ u. n) f g refl (λ x. refl))))
 
 module _ (s : List ℕ) (at : ℕ) {l : Read} where
   pub string-stop : {x : Read} {c : Fault} {p : ℕ} → l ≡ seen itself stringLength s at → l ≡ No c p → x ≡ refusedAt at l → x ≡ seen length string s at

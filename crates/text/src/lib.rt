@@ -17,13 +17,10 @@ fn length_at(s: &[u8], at: usize) -> Read
     if n != 255 {
         return b;
     }
-    let w = wire::u16_at(s, p);
-    let Read::Got(m, q) = w else {
+    let w = wire::fixed16_at(s, p, 255, Fault::Form);
+    let Read::Got(_, q) = w else {
         return w;
     };
-    if m != 255 {
-        return Read::No(Fault::Form, p);
-    }
     Read::Got(n, q)
 }
 
@@ -56,7 +53,7 @@ pub fn string_at(s: &[u8], at: usize) -> Read
 pub fn word_at(s: &[u8], at: usize) -> Read
     ensures { λ r. ⌜ r ≡ seen length word (now (s .entry)) at ⌝ }
 {
-    let z = wire::fixed_at(s, at, 0);
+    let z = wire::fixed32_at(s, at, 0);
     let Read::Got(_, p) = z else {
         return z;
     };

@@ -161,3 +161,8 @@ infixr 4 _then_
 -- what has no value, then a value of b
 unfoldable pub _then_ : {B : Type 0} → Format (Unit {0}) → Format B → Format B
 _then_ a b = via (seq a b) (λ p. p .1) (λ y. (tt, y)) (λ p f. refl)
+
+-- a value that fits behind what has none
+pub then-fit : {B : Type 0} (a : Format (Unit {0})) (b : Format B) (y : B) → (a then b) .Fit y → b .Fit y
+unfolding _then_ seq via pair
+then-fit a b y f = f .0 .1

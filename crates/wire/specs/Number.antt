@@ -3,14 +3,14 @@ use Prim.Native.Nat.{ℕ, zero, suc, _+_, _-_, _*_, _/_, _%_, _^_, _≤_, _<_}
 use native.Mathlib.Omega.{arith}
 use native.Mathlib.Nat.{zero-add, mul-comm, mul-assoc, mul-add, pow-suc, div-lt-iff-lt-mul, mod-lt}
 use mathlib.Core.Path.{_≡_, refl, sym, ap, ap₂, _∙_}
-use mathlib.Core.Bool.{Bool, true, false}
+use mathlib.Core.Bool.{Bool, true, false, _&&_}
 use mathlib.Core.List.{List, [], _∷_, _++_}
 use lib.ListN.{length, take, drop, getD, length-append, length-drop, take-append-drop}
 use lib.Seq.{take-append-seam, length-take-le, take-add, drop-drop, drop-cons}
 use lib.Dec.{leb, eqb}
 use borrow.Author.Tests.{le-leb, leb-true, eqb-true, eqb-false}
 use Rattle.wire.specs.declared.Fault.{Fault}
-use Rattle.wire.specs.declared.Fault.the-variants.{Cut, Field}
+use Rattle.wire.specs.declared.Fault.the-variants.{Cut, Count, Field}
 use Rattle.wire.specs.Format.{Answer, got, refused, endOf, pick, Bytes, bytes-take, Found, Format, apart}
 use Rattle.wire.specs.Join.{judged, via}
 
@@ -100,6 +100,13 @@ fixed k v c = via (judged (λ y. eqb y v) c (number k)) (λ x. tt) (λ u. v) (fi
 -- given bytes, else the fault c
 unfoldable pub bytes : List ℕ → Fault → Format (Unit {0})
 bytes bs c = fixed (length bs) (value bs) c
+
+-- a count of k bytes "outside its range" is 6
+unfoldable pub within : ℕ → ℕ → ℕ → Bool
+within low high n = leb low n && leb n high
+
+unfoldable pub count : ℕ → ℕ → ℕ → Format ℕ
+count k low high = judged (within low high) Count (number k)
 
 -- a yes or no: 4 bytes, 0 or 1
 unfoldable pub bit : Bool → ℕ

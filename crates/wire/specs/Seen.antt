@@ -1,21 +1,21 @@
 -- What the code says of a format at a place of a slice, and the laws by which its readers go: `reading` for one after the other, `running` for a row.
-use Prim.Native.Nat.{ℕ, zero, suc, _+_, _-_, _*_, _^_, _≤_, _<_}
-use native.Mathlib.Nat.{add-assoc, add-zero, zero-add}
+use Prim.Native.Nat.{ℕ, zero, suc, _+_, _-_, _*_, _/_, _%_, _^_, _≤_, _<_}
+use native.Mathlib.Nat.{add-assoc, add-zero, add-mul-mod-self-left, mod-eq-of-lt, mul-div-right}
 use native.Mathlib.Omega.{arith}
 use mathlib.Core.Path.{_≡_, refl, sym, ap, _∙_}
-use mathlib.Core.Bool.{Bool, true, false}
+use mathlib.Core.Bool.{Bool, true, false, _&&_}
 use mathlib.Core.List.{List, [], _∷_}
 use lib.ListN.{length, take, drop, length-drop}
 use lib.Seq.{drop-drop, take-all}
 use lib.Dec.{leb, eqb}
 use borrow.Author.Tests.{lt-leb, le-leb, eq-eqb, ne-eqb}
 use Rattle.wire.specs.declared.Fault.{Fault}
-use Rattle.wire.specs.declared.Fault.the-variants.{Cut, Field}
+use Rattle.wire.specs.declared.Fault.the-variants.{Cut, Count, Field}
 use Rattle.wire.specs.declared.Read.{Read}
 use Rattle.wire.specs.declared.Read.the-variants.{Got, No}
 use Rattle.wire.specs.Format.{Answer, got, refused, shift, mapped, andThen, endOf, pick, Bytes, Found, Format}
 use Rattle.wire.specs.Join.{pair, pairRead, seq, _then_, judged, judgeOf, judge, via, home, atStart, nothing}
-use Rattle.wire.specs.Number.{number, numberRead, fixed, flag, bit, bit-eqb, value}
+use Rattle.wire.specs.Number.{number, numberRead, count, fixed, within, flag, bit, bit-eqb, value, value-join}
 use Rattle.wire.specs.Each.{each, eachRead, counted, listed}
 
 -- an answer as the code gives it: what f tells of the value, and the place past it
@@ -89,9 +89,9 @@ module _ {A : Type 0} (f : A → ℕ) (a : Format A) (s : List ℕ) (at : ℕ) {
       go (refused c p) = refl
 
   -- one thing is told, whatever the value
-  pub told-is : {out : Read} {v w m : ℕ} → r ≡ seen f a s at → r ≡ Got v m → out ≡ Got w m → out ≡ seen (λ x. w) a s at
+  pub told-is : (g : A → ℕ) {out : Read} {v w m : ℕ} → r ≡ seen f a s at → r ≡ Got v m → out ≡ Got w m → ((x : A) → w ≡ g x) → out ≡ seen g a s at
   unfolding seen told
-  told-is e h o = let i = told-got at f (a .read (drop at s)) e h in rw (i .is, ← i .ends) o
+  told-is g e h o t = let i = told-got at f (a .read (drop at s)) e h in rw (i .is, ← t (i .x), ← i .ends) o
 
   -- a refusal is the same, whatever is told
   pub refused-is : (g : A → ℕ) {c : Fault} {p : ℕ} → r ≡ seen f a s at → r ≡ No c p → r ≡ seen g a s at
@@ -225,9 +225,100 @@ module _ (k : ℕ) (s : List ℕ) (at : ℕ) where
   unfolding seen number numberRead pick told
   number-no h = let l : length (drop at s) < k = omega (arith, length-drop at s) in rw (lt-leb k (length (drop at s)) l, add-zero)
 
-pub fixed-is : (g : Unit {0} → ℕ) (k v : ℕ) (c : Fault) (s : List ℕ) (at : ℕ) {r : Read} → r ≡ seen (λ x. g tt) (judged (λ y. eqb y v) c (number k)) s at → r ≡ seen g (fixed k v c) s at
-unfolding fixed
-fixed-is g k v c s at e = via-is g (judged (λ y. eqb y v) c (number k)) (λ x. tt) _ _ s at e
+-- a count, as the code judges the number that it read
+unfoldable pub judgedCount : ℕ → ℕ → ℕ → Read → Read
+judgedCount at low high (Got n m) = pick (within low high n) (Got n m) (No Count at)
+judgedCount at low high (No c p) = No c p
+
+module _ (at low high : ℕ) {r : Read} where
+  pub count-stop : {c : Fault} {p : ℕ} → r ≡ No c p → r ≡ judgedCount at low high r
+  unfolding judgedCount
+  count-stop h = h ∙ sym (ap (judgedCount at low high) h)
+
+  pub count-low : {n m : ℕ} → r ≡ Got n m → n < low → No Count at ≡ judgedCount at low high r
+  unfolding judgedCount within pick
+  count-low {n} h k = sym (ap (judgedCount at low high) h ∙ rw (lt-leb low n k))
+
+  pub count-high : {n m : ℕ} → r ≡ Got n m → low ≤ n → high < n → No Count at ≡ judgedCount at low high r
+  unfolding judgedCount within pick
+  count-high {n} h k l = sym (ap (judgedCount at low high) h ∙ rw (le-leb low n k, lt-leb n high l))
+
+  pub count-in : {out : Read} {n m : ℕ} → r ≡ Got n m → low ≤ n → n ≤ high → out ≡ Got n m → out ≡ judgedCount at low high r
+  unfolding judgedCount within pick
+  count-in {n = n} h k l o = o ∙ sym (ap (judgedCount at low high) h ∙ rw (le-leb low n k, le-leb n high l))
+
+pub ruleset counting = (refl, count-stop, count-low, count-high, count-in)
+
+pub count-is : (k low high : ℕ) (s : List ℕ) (at : ℕ) {r x : Read} → r ≡ seen itself (number k) s at → x ≡ judgedCount at low high r → x ≡ seen itself (count k low high) s at
+unfolding seen count judged judgeOf judge judgedCount told pick
+count-is k low high s at e o = o ∙ ap (judgedCount at low high) e ∙ go (number k .read (drop at s))
+  where
+    pass : (b : Bool) (n m : ℕ) → pick b (Got n (at + m)) (No Count at) ≡ told at itself (judge Count b n m)
+    pass true n m = refl
+    pass false n m = rw add-zero
+
+    go : (q : Answer ℕ) → judgedCount at low high (told at itself q) ≡ told at itself (judgeOf (within low high) Count q)
+    go (got n m) = pass (within low high n) n m
+    go (refused c p) = refl
+
+-- a constant, as the code judges the number that it read
+unfoldable pub judgedFixed : ℕ → ℕ → Fault → Read → Read
+judgedFixed at v c (Got n m) = pick (eqb n v) (Got 0 m) (No c at)
+judgedFixed at v c (No d p) = No d p
+
+module _ (at v : ℕ) (c : Fault) {r : Read} where
+  pub fixed-stop : {d : Fault} {p : ℕ} → r ≡ No d p → r ≡ judgedFixed at v c r
+  unfolding judgedFixed
+  fixed-stop h = h ∙ sym (ap (judgedFixed at v c) h)
+
+  pub fixed-off : {n m : ℕ} → r ≡ Got n m → (n ≡ v → ⊥) → No c at ≡ judgedFixed at v c r
+  unfolding judgedFixed pick
+  fixed-off {n} h k = sym (ap (judgedFixed at v c) h ∙ rw (ne-eqb n v k))
+
+  pub fixed-got : {n m : ℕ} → r ≡ Got n m → n ≡ v → Got 0 m ≡ judgedFixed at v c r
+  unfolding judgedFixed pick
+  fixed-got {n} h k = sym (ap (judgedFixed at v c) h ∙ rw (eq-eqb n v k))
+
+pub ruleset fixing = (refl, fixed-stop, fixed-off, fixed-got)
+
+pub fixed-is : (k v : ℕ) (c : Fault) (s : List ℕ) (at : ℕ) {r x : Read} → r ≡ seen itself (number k) s at → x ≡ judgedFixed at v c r → x ≡ seen none (fixed k v c) s at
+unfolding seen fixed via judged judgeOf judge judgedFixed mapped told pick
+fixed-is k v c s at e o = o ∙ ap (judgedFixed at v c) e ∙ go (number k .read (drop at s))
+  where
+    pass : (b : Bool) (n m : ℕ) → pick b (Got 0 (at + m)) (No c at) ≡ told at none (mapped {B = Unit {0}} (λ x. tt) (judge c b n m))
+    pass true n m = refl
+    pass false n m = rw add-zero
+
+    go : (q : Answer ℕ) → judgedFixed at v c (told at itself q) ≡ told at none (mapped {B = Unit {0}} (λ x. tt) (judgeOf (λ y. eqb y v) c q))
+    go (got n m) = pass (eqb n v) n m
+    go (refused d p) = refl
+
+-- one that the code reads in two parts: x of the first j bytes, and y of the k behind them
+module _ (j k : ℕ) (first last : ℕ) (c : Fault) (s : List ℕ) (at : ℕ) {x y : ℕ} where
+  both : x ≡ value (take j (drop at s)) → y ≡ value (take k (drop (at + j) s)) → at + (j + k) ≤ length s
+      → pick (eqb (x + 256 ^ j * y) (first + 256 ^ j * last)) (Got 0 (at + (j + k))) (No c at) ≡ seen none (fixed (j + k) (first + 256 ^ j * last) c) s at
+  unfolding judgedFixed
+  both ex ey h = fixed-is (j + k) (first + 256 ^ j * last) c s at (number-is (j + k) s at (value-join j k s at ex ey (omega arith)) h) refl
+
+  pub parts-got : x ≡ value (take j (drop at s)) → y ≡ value (take k (drop (at + j) s)) → at + (j + k) ≤ length s → x ≡ first → y ≡ last
+      → Got 0 (at + (j + k)) ≡ seen none (fixed (j + k) (first + 256 ^ j * last) c) s at
+  unfolding pick
+  parts-got ex ey h p q = rw (eq-eqb (x + 256 ^ j * y) (first + 256 ^ j * last) (rw (p, q))) at (both ex ey h)
+
+  -- the sums are equal only where the parts are
+  pub parts-off : x ≡ value (take j (drop at s)) → y ≡ value (take k (drop (at + j) s)) → at + (j + k) ≤ length s → x < 256 ^ j → first < 256 ^ j → (x ≡ first → y ≡ last → ⊥)
+      → No c at ≡ seen none (fixed (j + k) (first + 256 ^ j * last) c) s at
+  unfolding pick
+  parts-off ex ey h m n differ =
+      let same : x + 256 ^ j * y ≡ first + 256 ^ j * last → ⊥ = λ e.
+      let f : x ≡ first = sym (add-mul-mod-self-left x (256 ^ j) y ∙ mod-eq-of-lt m) ∙ ap (λ (w : ℕ). w % 256 ^ j) e ∙ add-mul-mod-self-left first (256 ^ j) last ∙ mod-eq-of-lt n in
+      let l : 256 ^ j * y ≡ 256 ^ j * last = omega arith in
+      differ f (sym (mul-div-right y (omega arith)) ∙ ap (λ (w : ℕ). w / 256 ^ j) l ∙ mul-div-right last (omega arith)) in
+      rw (ne-eqb (x + 256 ^ j * y) (first + 256 ^ j * last) same) at (both ex ey h)
+
+pub fixed-cut : (k v : ℕ) (c : Fault) (s : List ℕ) (at : ℕ) → length s - at < k → No Cut at ≡ seen none (fixed k v c) s at
+unfolding judgedFixed
+fixed-cut k v c s at h = fixed-is k v c s at (number-no k s at h) refl
 
 pub flag-got : (s : List ℕ) (at : ℕ) {r out : Read} {v m : ℕ} → r ≡ seen itself (number 4) s at → r ≡ Got v m → v ≤ 1 → out ≡ Got v m → out ≡ seen bit flag s at
 unfolding flag
@@ -235,4 +326,4 @@ flag-got s at {v = v} {m = m} e h o w =
     via-is bit (judged (λ n. leb n 1) Field (number 4)) (λ n. eqb n 1) _ _ s at
     (judged-got (λ n. bit (eqb n 1)) (λ n. leb n 1) Field (number 4) s at e h (yes-le o) (w ∙ ap (λ (b : ℕ). Got b m) (sym (bit-eqb v o))))
 
-pub ruleset reading = (refl, pair-stop, pair-go, seq-stop, seq-go, then-stop, then-go, judged-stop, judged-got, judged-no, via-is, start-got, start-no, pick-yes, pick-no, nothing-is, fixed-is, flag-got, untold-is, yes-le, no-le, yes-eq, no-eq, yes-as, no-as)
+pub ruleset reading = (refl, pair-stop, pair-go, seq-stop, seq-go, then-stop, then-go, judged-stop, judged-got, judged-no, via-is, start-got, start-no, pick-yes, pick-no, nothing-is, flag-got, untold-is, yes-le, no-le, yes-eq, no-eq, yes-as, no-as)

@@ -1,9 +1,9 @@
 // Answers, and readers of numbers and constants at a place of a slice.
 ghost use mathlib.Core.Path.{_≡_};
-ghost use Prim.Native.Nat.{_+_, _-_, _<_, _≤_, _^_};
+ghost use Prim.Native.Nat.{_+_, _-_, _*_, _<_, _≤_, _^_};
 ghost use lib.ListN.{length, take, drop};
-ghost use Rattle.wire.specs.Number.{value, number, fixed, flag, bit};
-ghost use Rattle.wire.specs.Seen.{seen, itself, none, toldNothing};
+ghost use Rattle.wire.specs.Number.{value, number, count, fixed, flag, bit};
+ghost use Rattle.wire.specs.Seen.{seen, itself, none, toldNothing, judgedCount, judgedFixed};
 ghost use Rattle.wire.specs.Fault.{numberOf};
 
 // The rows of document 01's table "Numbers a refusal gives"; specs/Fault.antt has their numbers.
@@ -60,7 +60,7 @@ pub fn untold(r: Read) -> Read
     }
 }
 
-// The bytes at a place that has them, the lowest first: one, two, four, eight.
+// The bytes at a place that has them, the lowest first.
 fn one(s: &[u8], at: usize) -> u64
     requires { ⌜ at + 1 ≤ length (now s) ⌝ }
     ensures { λ r. ⌜ (r ≡ value (take 1 (drop at (now (s .entry))))) × (r < 2 ^ 8) ⌝ }
@@ -73,6 +73,13 @@ fn two(s: &[u8], at: usize) -> u64
     ensures { λ r. ⌜ (r ≡ value (take 2 (drop at (now (s .entry))))) × (r < 2 ^ 16) ⌝ }
 {
     one(s, at) + 0x100 * one(s, at + 1)
+}
+
+fn three(s: &[u8], at: usize) -> u64
+    requires { ⌜ at + 3 ≤ length (now s) ⌝ }
+    ensures { λ r. ⌜ (r ≡ value (take 3 (drop at (now (s .entry))))) × (r < 2 ^ 24) ⌝ }
+{
+    two(s, at) + 0x1_0000 * one(s, at + 2)
 }
 
 fn four(s: &[u8], at: usize) -> u64
@@ -99,7 +106,7 @@ pub fn left(s: &[u8], at: usize) -> usize
     s.len() - at
 }
 
-// A number of 1, 2, 4 or 8 bytes.
+// A number of 1, 2, 3, 4 or 8 bytes.
 pub fn u8_at(s: &[u8], at: usize) -> Read
     ensures { λ r. ⌜ r ≡ seen itself (number 1) (now (s .entry)) at ⌝ }
 {
@@ -116,6 +123,15 @@ pub fn u16_at(s: &[u8], at: usize) -> Read
         return Read::No(Fault::Cut, at);
     }
     Read::Got(two(s, at), at + 2)
+}
+
+pub fn u24_at(s: &[u8], at: usize) -> Read
+    ensures { λ r. ⌜ r ≡ seen itself (number 3) (now (s .entry)) at ⌝ }
+{
+    if left(s, at) < 3 {
+        return Read::No(Fault::Cut, at);
+    }
+    Read::Got(three(s, at), at + 3)
 }
 
 pub fn u32_at(s: &[u8], at: usize) -> Read
@@ -136,18 +152,81 @@ pub fn u64_at(s: &[u8], at: usize) -> Read
     Read::Got(eight(s, at), at + 8)
 }
 
-// A field of 4 bytes that must hold v.
-pub fn fixed_at(s: &[u8], at: usize, v: u32) -> Read
-    ensures { λ r. ⌜ r ≡ seen none (fixed 4 v Fault.Field) (now (s .entry)) at ⌝ }
+// A number that was read, as a count: it must be from low to high.
+fn judged_count(r: Read, at: usize, low: u64, high: u64) -> Read
+    ensures { λ x. ⌜ x ≡ judgedCount at low high r ⌝ }
 {
-    let r = u32_at(s, at);
-    let Read::Got(x, p) = r else {
+    let Read::Got(n, _) = r else {
         return r;
     };
-    if x != (v as u64) {
-        return Read::No(Fault::Field, at);
+    if n < low {
+        return Read::No(Fault::Count, at);
+    }
+    if high < n {
+        return Read::No(Fault::Count, at);
+    }
+    r
+}
+
+// A count of 2 or 4 bytes.
+pub fn count16_at(s: &[u8], at: usize, low: u64, high: u64) -> Read
+    ensures { λ r. ⌜ r ≡ seen itself (count 2 low high) (now (s .entry)) at ⌝ }
+{
+    judged_count(u16_at(s, at), at, low, high)
+}
+
+pub fn count32_at(s: &[u8], at: usize, low: u64, high: u64) -> Read
+    ensures { λ r. ⌜ r ≡ seen itself (count 4 low high) (now (s .entry)) at ⌝ }
+{
+    judged_count(u32_at(s, at), at, low, high)
+}
+
+// A number that was read, as a constant: it must be v.
+fn judged_fixed(r: Read, at: usize, v: u64, fault: Fault) -> Read
+    ensures { λ x. ⌜ x ≡ judgedFixed at v fault r ⌝ }
+{
+    let Read::Got(n, p) = r else {
+        return r;
+    };
+    if n != v {
+        return Read::No(fault, at);
     }
     Read::Got(0, p)
+}
+
+// A constant of 2, 3 or 4 bytes.
+pub fn fixed16_at(s: &[u8], at: usize, v: u64, fault: Fault) -> Read
+    ensures { λ r. ⌜ r ≡ seen none (fixed 2 v fault) (now (s .entry)) at ⌝ }
+{
+    judged_fixed(u16_at(s, at), at, v, fault)
+}
+
+pub fn fixed24_at(s: &[u8], at: usize, v: u64, fault: Fault) -> Read
+    ensures { λ r. ⌜ r ≡ seen none (fixed 3 v fault) (now (s .entry)) at ⌝ }
+{
+    judged_fixed(u24_at(s, at), at, v, fault)
+}
+
+pub fn fixed32_at(s: &[u8], at: usize, v: u64) -> Read
+    ensures { λ r. ⌜ r ≡ seen none (fixed 4 v Fault.Field) (now (s .entry)) at ⌝ }
+{
+    judged_fixed(u32_at(s, at), at, v, Fault::Field)
+}
+
+// A constant of 12 bytes, the first eight and the last four.
+pub fn fixed96_at(s: &[u8], at: usize, first: u64, last: u64) -> Read
+    ensures { λ r. ⌜ r ≡ seen none (fixed 12 (first + 2 ^ 64 * last) Fault.Field) (now (s .entry)) at ⌝ }
+{
+    if left(s, at) < 12 {
+        return Read::No(Fault::Cut, at);
+    }
+    if eight(s, at) != first {
+        return Read::No(Fault::Field, at);
+    }
+    if four(s, at + 8) != last {
+        return Read::No(Fault::Field, at);
+    }
+    Read::Got(0, at + 12)
 }
 
 // A yes or no: a field of 4 bytes that must hold 0 or 1.

@@ -1,5 +1,6 @@
+use Rattle.text.specs.Text.{length-long}
 use Rattle.text.specs.Text.{stringLength, extended}
-use Rattle.wire.specs.Seen.{reading}
+use Rattle.wire.specs.Seen.{reading, refused-is}
 use borrow.Author.Needs.{needs}
 use Rattle.text.proofs.length_at.Statement.{statement}
 use Rattle.text.proofs.length_at.Tie as tie
@@ -14,15 +15,10 @@ returns-2 c = search reading
 
 returns-3 : tie.Need-returns-3
 unfolding stringLength extended
-returns-3 c = search reading depth 7
+returns-3 c = search (reading, refused-is) depth 6
 
 returns-4 : tie.Need-returns-4
-unfolding stringLength extended
-returns-4 c = search reading depth 7
-
-returns-5 : tie.Need-returns-5
-unfolding stringLength extended
-returns-5 c = search reading depth 7
+returns-4 c = search (needs, length-long)
 
 pub length-at-spec : {M : Type 1} → statement M
 length-at-spec =
@@ -37,5 +33,4 @@ length-at-spec =
     (λ c. search needs)
     (λ c. search needs)
     returns-3
-    returns-4
-    returns-5)
+    returns-4)

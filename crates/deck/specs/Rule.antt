@@ -1,0 +1,79 @@
+-- A rule: document 01, "The deck"; source document 001, sections 2.2.10 and 2.3.
+use Prim.Native.Nat.{ℕ, _+_, _*_, _^_}
+use mathlib.Core.Path.{_≡_, refl}
+use mathlib.Core.Bool.{Bool}
+use mathlib.Core.List.{List, [], _∷_}
+use lib.ListN.{length}
+use lib.Dec.{eqb}
+use Rattle.wire.specs.declared.Fault.the-variants as Fault
+use Rattle.wire.specs.declared.Read.{Read}
+use Rattle.wire.specs.Format.{Format, pick}
+use Rattle.wire.specs.Join.{via, seq, _then_, then-fit}
+use Rattle.wire.specs.Number.{number, count, fixed, bytes, value, flag}
+use Rattle.wire.specs.Each.{each, each-long, counted}
+use Rattle.wire.specs.Sized.{sized}
+use Rattle.wire.specs.Seen.{seen, none}
+use Rattle.text.specs.Text.{string}
+use Rattle.kind.specs.declared.Product.{Product}
+use Rattle.element.specs.Element.{Element, element}
+
+-- what a rule says; Data Size, the number of elements, heads and 8001s are not in it, since they follow from it
+pub record Rule : Type 0 where
+  pub signature : ℕ
+  pub name : List ℕ
+  pub on : Bool
+  pub unknown2 : ℕ
+  pub unknown3 : ℕ
+  pub unknown4 : ℕ
+  pub unknown5 : ℕ
+  pub elements : List Element
+
+-- "number of elements, 1 to 64": 2 bytes
+abbrev pub elementCount : Format ℕ
+elementCount = count 2 1 64
+
+-- "8001 (2 bytes)"
+abbrev pub separator : Format (Unit {0})
+separator = fixed 2 0x8001 Fault.Field
+
+-- `CRuleElement`
+unfoldable pub className : List ℕ
+className = 0x43 ∷ 0x52 ∷ 0x75 ∷ 0x6C ∷ 0x65 ∷ 0x45 ∷ 0x6C ∷ 0x65 ∷ 0x6D ∷ 0x65 ∷ 0x6E ∷ 0x74 ∷ []
+
+-- "head: first rule FFFF, 0000, 000C, `CRuleElement`; other rules 8001"
+unfoldable pub classHead : Format (Unit {0})
+classHead = fixed 2 0x0000 Fault.Field then fixed 2 0x000C Fault.Field then bytes className Fault.Field
+
+unfoldable pub firstHead : Format (Unit {0})
+firstHead = fixed 2 0xFFFF Fault.Field then classHead
+
+unfoldable pub head : ℕ → Format (Unit {0})
+head i = pick (eqb i 0) firstHead separator
+
+-- "elements, with 8001 between two of one rule": the element at place j of its rule
+unfoldable pub placed : Product → ℕ → Format Element
+placed p j = pick (eqb j 0) (element p) (separator then element p)
+
+-- the number of elements, the head of rule i, the elements
+pub body-long : (p : Product) (i n : ℕ) (xs : List Element) → (head i then each (placed p) 0 n) .Fit xs → length xs ≡ n
+body-long p i n xs f = each-long (placed p) 0 n xs (then-fit (head i) (each (placed p) 0 n) xs f)
+
+unfoldable pub body : Product → ℕ → Format (List Element)
+body p i = counted elementCount (λ n. head i then each (placed p) 0 n) (body-long p i)
+
+-- the fields of rule i in order: signature and Unknown1, name, Enabled, Unknown2 to Unknown5, Data Size, and what it counts
+unfoldable pub fields : Product → ℕ → Format (ℕ × (List ℕ × (Bool × (ℕ × (ℕ × (ℕ × (ℕ × List Element)))))))
+fields p i = seq (number 4) (seq string (seq flag (seq (number 4) (seq (number 4) (seq (number 4) (seq (number 4) (sized Fault.Size (body p i))))))))
+
+unfoldable pub rule : Product → ℕ → Format Rule
+rule p i = via (fields p i)
+    (λ f. record { signature = f .0; name = f .1 .0; on = f .1 .1 .0; unknown2 = f .1 .1 .1 .0; unknown3 = f .1 .1 .1 .1 .0; unknown4 = f .1 .1 .1 .1 .1 .0; unknown5 = f .1 .1 .1 .1 .1 .1 .0; elements = f .1 .1 .1 .1 .1 .1 .1 })
+    (λ r. (r .signature, (r .name, (r .on, (r .unknown2, (r .unknown3, (r .unknown4, (r .unknown5, r .elements))))))))
+    (λ f h. refl)
+
+-- ---- as the code reads it
+
+-- the twelve bytes of the class name as two numbers
+pub class-is : (s : List ℕ) (at : ℕ) {out : Read} → out ≡ seen none (fixed 12 (0x656C45656C755243 + 2 ^ 64 * 0x746E656D) Fault.Field) s at → out ≡ seen none (bytes className Fault.Field) s at
+unfolding bytes className value
+class-is s at e = e

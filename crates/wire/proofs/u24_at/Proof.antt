@@ -1,0 +1,14 @@
+use native.Mathlib.Omega.{arith}
+use Rattle.wire.specs.Seen.{number-is, number-no}
+use borrow.Author.Needs.{needs}
+use Rattle.wire.proofs.u24_at.Statement.{statement}
+use Rattle.wire.proofs.u24_at.Tie as tie
+
+returns : tie.Need-returns
+returns c = number-no _ _ _ (omega arith)
+
+returns-2 : tie.Need-returns-2
+returns-2 c = number-is _ _ _ (c .three .ensures .0) (omega arith)
+
+pub u24-at-spec : {M : Type 1} → statement M
+u24-at-spec = tie.close (tie.spec (λ c κs. search needs) returns (λ c κs. search needs) (λ c. search needs) returns-2)
