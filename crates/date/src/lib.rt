@@ -1,8 +1,8 @@
 // Dates: doubles within a range, kept as their bits.
-use wire::Fault;
-use wire::Read;
+use format::Fault;
+use format::Read;
 ghost use mathlib.Core.Path.{_≡_};
-ghost use Rattle.wire.specs.Seen.{seen, itself};
+ghost use Rattle.format.specs.Seen.{seen, itself};
 ghost use Rattle.date.specs.Double.{accepted};
 ghost use Rattle.date.specs.Date.{date};
 

@@ -1,3 +1,2 @@
-pub mod Rule
 pub mod Deck
 pub mod Cases

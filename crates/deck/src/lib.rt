@@ -1,42 +1,70 @@
-// Rules and decks.
-use wire::Fault;
-use wire::Read;
+// The deck: its check.
+use format::Fault;
+use format::Outcome;
+use format::Read;
+use kind::Edition;
+use kind::Product;
 ghost use mathlib.Core.Path.{_≡_};
-ghost use Rattle.wire.specs.Seen.{seen, none};
-ghost use Rattle.deck.specs.Rule.{separator, classHead, head};
+ghost use lib.ListN.{length};
+ghost use Rattle.format.specs.Seen.{seen};
+ghost use Rattle.deck.specs.Deck.{rules, deck, answered, readAs, readDeck};
 
-// 8001.
-fn separator_at(s: &[u8], at: usize) -> Read
-    ensures { λ r. ⌜ r ≡ seen none separator (now (s .entry)) at ⌝ }
+// The number of rules and they; the value is their number.
+fn counted_at(s: &[u8], at: usize, product: Product) -> Read
+    ensures { λ r. ⌜ r ≡ seen length (rules product) (now (s .entry)) at ⌝ }
 {
-    wire::fixed16_at(s, at, 0x8001, Fault::Field)
+    let c = wire::count16_at(s, at, 0, 256);
+    let Read::Got(n, p) = c else {
+        return c;
+    };
+    let r = rule::rules_at(s, p, product, n);
+    let Read::Got(_, q) = r else {
+        return r;
+    };
+    Read::Got(n, q)
 }
 
-// The long head behind its FFFF: 0000, 000C, `CRuleElement`.
-fn class_at(s: &[u8], at: usize) -> Read
-    ensures { λ r. ⌜ r ≡ seen none classHead (now (s .entry)) at ⌝ }
+// The deck from its start; the value is the number of rules.
+fn deck_at(s: &[u8], product: Product) -> Read
+    ensures { λ r. ⌜ r ≡ seen length (deck product) (now (s .entry)) 0 ⌝ }
 {
-    let z = wire::fixed16_at(s, at, 0x0000, Fault::Field);
-    let Read::Got(_, p) = z else {
-        return z;
+    let m = wire::fixed24_at(s, 0, 0x4B_4452, Fault::Mark);
+    let Read::Got(_, p) = m else {
+        return m;
     };
-    let n = wire::fixed16_at(s, p, 0x000C, Fault::Field);
-    let Read::Got(_, q) = n else {
-        return n;
+    let v = wire::fixed16_at(s, p, 1, Fault::Version);
+    let Read::Got(_, q) = v else {
+        return v;
     };
-    wire::fixed96_at(s, q, 0x656C_4565_6C75_5243, 0x746E_656D)
+    counted_at(s, q, product)
 }
 
-// The head of rule i.
-fn head_at(s: &[u8], at: usize, i: u64) -> Read
-    ensures { λ r. ⌜ r ≡ seen none (head i) (now (s .entry)) at ⌝ }
+// A deck read by a product: 2 first, 13 last.
+pub fn check_as(product: Product, s: &[u8]) -> Outcome
+    ensures { λ r. ⌜ r ≡ answered (readAs product (now (s .entry))) ⌝ }
 {
-    if i != 0 {
-        return separator_at(s, at);
+    if 60000 < s.len() {
+        return Outcome::No(Fault::Long, 60000);
     }
-    let f = wire::fixed16_at(s, at, 0xFFFF, Fault::Field);
-    let Read::Got(_, p) = f else {
-        return f;
+    let r = deck_at(s, product);
+    match r {
+        Read::Got(n, e) => {
+            if e != s.len() {
+                return Outcome::No(Fault::Over, e);
+            }
+            Outcome::Done(n as usize)
+        }
+        Read::No(c, p) => Outcome::No(c, p),
+    }
+}
+
+// The deck check.
+pub fn check(edition: u64, s: &[u8]) -> Outcome
+    ensures { λ r. ⌜ r ≡ answered (readDeck edition (now (s .entry))) ⌝ }
+{
+    let e = kind::edition_of(edition);
+    let Edition::Of(product) = e else {
+        return Outcome::No(Fault::Edition, 0);
     };
-    class_at(s, p)
+    check_as(product, s)
 }

@@ -3,11 +3,11 @@ use Prim.Native.Nat.{ℕ}
 use mathlib.Core.Path.{_≡_, refl}
 use mathlib.Core.Bool.{Bool, false}
 use mathlib.Core.List.{List, []}
-use Rattle.wire.specs.declared.Fault.the-variants as Fault
-use Rattle.wire.specs.Format.{Format}
-use Rattle.wire.specs.Join.{via, seq, _then_}
-use Rattle.wire.specs.Number.{number, count, fixed, flag}
-use Rattle.wire.specs.Each.{listed}
+use Rattle.format.specs.declared.Fault.the-variants as Fault
+use Rattle.format.specs.Format.{Format}
+use Rattle.format.specs.Join.{via, seq, _then_}
+use Rattle.format.specs.Number.{number, count, fixed, flag}
+use Rattle.format.specs.Each.{listed}
 use Rattle.text.specs.Text.{word}
 use Rattle.date.specs.Date.{date}
 use Rattle.kind.specs.declared.Kind.{Kind}

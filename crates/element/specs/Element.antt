@@ -5,14 +5,14 @@ use mathlib.Core.Path.{_≡_, refl, sym, ap, _∙_}
 use mathlib.Core.Bool.{Bool, true, false}
 use mathlib.Core.List.{List}
 use lib.ListN.{length}
-use Rattle.wire.specs.declared.Fault.{Fault}
-use Rattle.wire.specs.declared.Fault.the-variants as Fault
-use Rattle.wire.specs.declared.Read.{Read}
-use Rattle.wire.specs.declared.Read.the-variants as Read
-use Rattle.wire.specs.Format.{Format}
-use Rattle.wire.specs.Join.{pair, judged}
-use Rattle.wire.specs.Number.{number}
-use Rattle.wire.specs.Seen.{seen, itself, none, via-is, pair-stop, pair-go, judged-stop, judged-got, judged-no, number-no}
+use Rattle.format.specs.declared.Fault.{Fault}
+use Rattle.format.specs.declared.Fault.the-variants as Fault
+use Rattle.format.specs.declared.Read.{Read}
+use Rattle.format.specs.declared.Read.the-variants as Read
+use Rattle.format.specs.Format.{Format}
+use Rattle.format.specs.Join.{pair, judged}
+use Rattle.format.specs.Number.{number}
+use Rattle.format.specs.Seen.{seen, itself, none, via-is, pair-stop, pair-go, judged-stop, judged-got, judged-no, number-no}
 use Rattle.kind.specs.declared.Product.{Product}
 use Rattle.kind.specs.declared.Role.{Role}
 use Rattle.kind.specs.declared.Kind.{Kind}

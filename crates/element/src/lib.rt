@@ -1,13 +1,13 @@
 // Elements: an identifier and the data of its kind.
+use format::Fault;
+use format::Read;
 use kind::Kind;
 use kind::Product;
 use kind::Row;
-use wire::Fault;
-use wire::Read;
 ghost use mathlib.Core.Path.{_≡_};
 ghost use lib.ListN.{length};
-ghost use Rattle.wire.specs.Each.{each};
-ghost use Rattle.wire.specs.Seen.{seen, itself, none};
+ghost use Rattle.format.specs.Each.{each};
+ghost use Rattle.format.specs.Seen.{seen, itself, none};
 ghost use Rattle.text.specs.Text.{word};
 ghost use Rattle.element.specs.Element.{element, named};
 ghost use Rattle.element.specs.Data.{oneZero, markerData, wordData, sizeData, limit, dateData, dataOf};
@@ -71,7 +71,7 @@ fn size_at(s: &[u8], at: usize) -> Read
     let Read::Got(_, q) = min else {
         return min;
     };
-    wire::untold(wire::u32_at(s, q))
+    format::untold(wire::u32_at(s, q))
 }
 
 // One end of a date span: flag, 0, date.
@@ -86,7 +86,7 @@ fn limit_at(s: &[u8], at: usize) -> Read
     let Read::Got(_, q) = z else {
         return z;
     };
-    wire::untold(date::date_at(s, q))
+    format::untold(date::date_at(s, q))
 }
 
 fn dates_at(s: &[u8], at: usize) -> Read

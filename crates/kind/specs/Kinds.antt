@@ -1,5 +1,5 @@
 -- The kinds of elements: document 01, "The deck", the table of identifiers and the two editions.
-use Prim.Native.Nat.{ℕ, zero, suc, _+_, _≤_, _<_}
+use Prim.Native.Nat.{ℕ, zero, suc, _+_, _*_, _/_, _%_, _≤_, _<_}
 use native.Mathlib.Nat.{add-zero, zero-add}
 use native.Mathlib.Omega.{arith}
 use mathlib.Core.Path.{_≡_, refl, sym, ap, _∙_}
@@ -9,9 +9,9 @@ use lib.ListN.{length, getD}
 use lib.Dec.{eqb}
 use borrow.Author.Tests.{ne-eqb}
 use borrow.Author.Needs.{needs}
-use Rattle.wire.specs.declared.Fault.{Fault}
-use Rattle.wire.specs.declared.Fault.the-variants as Fault
-use Rattle.wire.specs.Format.{pick}
+use Rattle.format.specs.declared.Fault.{Fault}
+use Rattle.format.specs.declared.Fault.the-variants as Fault
+use Rattle.format.specs.Format.{pick}
 use Rattle.kind.specs.declared.Product.{Product}
 use Rattle.kind.specs.declared.Product.the-variants.{Desk, Studio}
 use Rattle.kind.specs.declared.Edition.{Edition}
@@ -173,29 +173,46 @@ unfoldable pub rowsFrom : ℕ → ℕ → List Row
 rowsFrom i zero = []
 rowsFrom i (suc n) = rowIn kinds i ∷ rowsFrom (suc i) n
 
+-- n lines of sixteen rows
+unfoldable pub linesFrom : ℕ → ℕ → List (List Row)
+linesFrom i zero = []
+linesFrom i (suc n) = rowsFrom i 16 ∷ linesFrom (i + 16) n
+
 -- what the code's table has to hold, and its rule, one computed test for all of it
-unfoldable pub table : List ℕ
-table = map codeOf (rowsFrom 0 0x21C)
+unfoldable pub table : List (List ℕ)
+table = map (map codeOf) (linesFrom 0 34)
 
-rows-at : (l : List ℕ) (i k : ℕ) → map rowAt l ≡ rowsFrom i (length l) → k < length l → rowAt (getD l k 0) ≡ rowIn kinds (i + k)
-unfolding rowsFrom
-rows-at [] i k t h = absurd (omega arith)
-rows-at (x ∷ l) i zero t h = let e : rowAt x ≡ rowIn kinds i = cc in rw add-zero e
-rows-at (x ∷ l) i (suc k) t h =
-    let e : map rowAt l ≡ rowsFrom (suc i) (length l) = cc in
-    let n : suc i + k ≡ i + suc k = omega arith in
-    rw n at (rows-at l (suc i) k e (omega arith))
-
-table-right : map rowAt table ≡ rowsFrom 0 (length table)
-unfolding table codeOf rowAt rowsFrom rowIn has pick
+table-right : map (map rowAt) table ≡ linesFrom 0 34
+unfolding table linesFrom codeOf rowAt rowsFrom rowIn has pick
 table-right = refl
 
-table-long : length table ≡ 0x21C
-unfolding table rowsFrom
-table-long = refl
+row-in : (l : List ℕ) (i n k : ℕ) → map rowAt l ≡ rowsFrom i n → k < n → rowAt (getD l k 0) ≡ rowIn kinds (i + k)
+unfolding rowsFrom
+row-in l i zero k t h = absurd (omega arith)
+row-in [] i (suc n) k t h = absurd (let z : _≡_ {A = ℕ} 0 1 = cc in omega arith)
+row-in (x ∷ l) i (suc n) zero t h = let e : rowAt x ≡ rowIn kinds i = cc in rw add-zero e
+row-in (x ∷ l) i (suc n) (suc k) t h =
+    let e : map rowAt l ≡ rowsFrom (suc i) n = cc in
+    let z : suc i + k ≡ i + suc k = omega arith in
+    rw z at (row-in l (suc i) n k e (omega arith))
 
-pub row-is : (id : ℕ) {r : Row} → r ≡ rowAt (getD table id 0) → id < 0x21C → r ≡ rowIn kinds id
-row-is id e h = e ∙ (rw zero-add at (rows-at table 0 id table-right (omega (arith, table-long))))
+line-in : (ls : List (List ℕ)) (i n q k : ℕ) → map (map rowAt) ls ≡ linesFrom i n → q < n → k < 16 → rowAt (getD (getD ls q []) k 0) ≡ rowIn kinds (i + 16 * q + k)
+unfolding linesFrom
+line-in ls i zero q k t h m = absurd (omega arith)
+line-in [] i (suc n) q k t h m = absurd (let z : _≡_ {A = ℕ} 0 1 = cc in omega arith)
+line-in (l ∷ ls) i (suc n) zero k t h m =
+    let e : map rowAt l ≡ rowsFrom i 16 = cc in
+    let z : i + 16 * 0 + k ≡ i + k = omega arith in
+    rw z (row-in l i 16 k e m)
+line-in (l ∷ ls) i (suc n) (suc q) k t h m =
+    let e : map (map rowAt) ls ≡ linesFrom (i + 16) n = cc in
+    let z : i + 16 + 16 * q + k ≡ i + 16 * suc q + k = omega arith in
+    rw z at (line-in ls (i + 16) n q k e (omega arith) m)
+
+pub row-is : (id : ℕ) {r : Row} → r ≡ rowAt (getD (getD table (id / 16) []) (id % 16) 0) → id < 0x220 → r ≡ rowIn kinds id
+row-is id e h =
+    let z : 0 + 16 * (id / 16) + id % 16 ≡ id = omega arith in
+    e ∙ (rw z at (line-in table 0 34 (id / 16) (id % 16) table-right (omega arith) (omega arith)))
 
 -- what is not below n is in no list and in no row of numbers below n
 unfoldable pub Below : ℕ → List ℕ → Type 0
@@ -216,9 +233,9 @@ unfolding rowIn RowsBelow pick
 row-not n id [] b h = refl
 row-not n id ((k, ids) ∷ rows) b h = rw (has-not n id ids (b .0) h) (row-not n id rows (b .1) h)
 
-all-below : RowsBelow 0x21C kinds
+all-below : RowsBelow 0x220 kinds
 unfolding RowsBelow Below
 all-below = search needs
 
-pub row-past : (id : ℕ) → 0x21C ≤ id → No Fault.Unknown 0 ≡ rowIn kinds id
-row-past id h = row-not 0x21C id kinds all-below h
+pub row-past : (id : ℕ) → 0x220 ≤ id → No Fault.Unknown 0 ≡ rowIn kinds id
+row-past id h = row-not 0x220 id kinds all-below h

@@ -5,16 +5,16 @@ use mathlib.Core.Path.{_≡_, refl, sym, ap, _∙_}
 use mathlib.Core.List.{List}
 use lib.ListN.{length, drop, length-drop}
 use lib.Dec.{eqb}
-use Rattle.wire.specs.declared.Fault.{Fault}
-use Rattle.wire.specs.declared.Fault.the-variants.{Cut, Form, Field}
-use Rattle.wire.specs.declared.Read.{Read}
-use Rattle.wire.specs.declared.Read.the-variants.{Got, No}
-use Rattle.wire.specs.Format.{Answer, got, refused, Format, pick}
-use Rattle.wire.specs.Join.{pair, via, atStart, nothing, _then_}
-use Rattle.wire.specs.Number.{number, fixed}
-use Rattle.wire.specs.Each.{each, listed}
-use Rattle.wire.specs.Seen.{seen, itself, none, told-is, via-is, pair-stop, pair-go, pick-yes, yes-eq, start-got, start-no}
-use Rattle.wire.specs.Rows.{listed-is, row-is, row-no}
+use Rattle.format.specs.declared.Fault.{Fault}
+use Rattle.format.specs.declared.Fault.the-variants.{Cut, Form, Field}
+use Rattle.format.specs.declared.Read.{Read}
+use Rattle.format.specs.declared.Read.the-variants.{Got, No}
+use Rattle.format.specs.Format.{Answer, got, refused, Format, pick}
+use Rattle.format.specs.Join.{pair, via, atStart, nothing, _then_}
+use Rattle.format.specs.Number.{number, fixed}
+use Rattle.format.specs.Each.{each, listed}
+use Rattle.format.specs.Seen.{seen, itself, none, told-is, via-is, pair-stop, pair-go, pick-yes, yes-eq, start-got, start-no}
+use Rattle.format.specs.Rows.{listed-is, row-is, row-no}
 
 -- "a length byte": FF "means that a 2-byte length follows"; "254 units or fewer use the short form and 255 the long one"
 unfoldable pub extended : ℕ → Format (Unit {0})

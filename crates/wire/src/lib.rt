@@ -1,64 +1,11 @@
-// Answers, and readers of numbers and constants at a place of a slice.
+// Readers of numbers and constants at a place of a slice.
+use format::Fault;
+use format::Read;
 ghost use mathlib.Core.Path.{_≡_};
 ghost use Prim.Native.Nat.{_+_, _-_, _*_, _<_, _≤_, _^_};
 ghost use lib.ListN.{length, take, drop};
-ghost use Rattle.wire.specs.Number.{value, number, count, fixed, flag, bit};
-ghost use Rattle.wire.specs.Seen.{seen, itself, none, toldNothing, judgedCount, judgedFixed};
-ghost use Rattle.wire.specs.Fault.{numberOf};
-
-// The rows of document 01's table "Numbers a refusal gives"; specs/Fault.antt has their numbers.
-pub enum Fault {
-    Edition,
-    Long,
-    Cut,
-    Mark,
-    Version,
-    Count,
-    Form,
-    Field,
-    Unknown,
-    Foreign,
-    Date,
-    Size,
-    Over,
-}
-
-// A value with the place past it, or a fault with its place.
-pub enum Read {
-    Got(u64, usize),
-    No(Fault, usize),
-}
-
-// The number of a fault.
-pub fn number_of(fault: Fault) -> u64
-    ensures { λ r. ⌜ r ≡ numberOf fault ⌝ }
-{
-    match fault {
-        Fault::Edition => 1,
-        Fault::Long => 2,
-        Fault::Cut => 3,
-        Fault::Mark => 4,
-        Fault::Version => 5,
-        Fault::Count => 6,
-        Fault::Form => 7,
-        Fault::Field => 8,
-        Fault::Unknown => 9,
-        Fault::Foreign => 10,
-        Fault::Date => 11,
-        Fault::Size => 12,
-        Fault::Over => 13,
-    }
-}
-
-// What was read, with nothing told of it but its end.
-pub fn untold(r: Read) -> Read
-    ensures { λ x. ⌜ x ≡ toldNothing r ⌝ }
-{
-    match r {
-        Read::Got(_, n) => Read::Got(0, n),
-        Read::No(_, _) => r,
-    }
-}
+ghost use Rattle.format.specs.Number.{value, number, count, fixed, flag, bit};
+ghost use Rattle.format.specs.Seen.{seen, itself, none, judgedCount, judgedFixed};
 
 // The bytes at a place that has them, the lowest first.
 fn one(s: &[u8], at: usize) -> u64

@@ -1,9 +1,9 @@
 use Prim.Native.Nat.{_-_}
 use mathlib.Core.Path.{_≡_}
 use borrow.Author.Needs.{needs}
-use Rattle.wire.specs.Each.{each}
-use Rattle.wire.specs.Seen.{seen, none}
-use Rattle.wire.specs.Rows.{running}
+use Rattle.format.specs.Each.{each}
+use Rattle.format.specs.Seen.{seen, none}
+use Rattle.format.specs.Rows.{running}
 use Rattle.text.specs.Text.{word}
 use Rattle.element.proofs.words_at.Statement.{statement}
 use Rattle.element.proofs.words_at.Tie as tie

@@ -1,5 +1,5 @@
 use Rattle.kind.specs.Kinds.{editionOf}
-use Rattle.wire.specs.Format.{pick}
+use Rattle.format.specs.Format.{pick}
 use borrow.Author.Tests.{ne-eqb}
 use Rattle.kind.proofs.edition_of.Statement.{statement}
 use Rattle.kind.proofs.edition_of.Tie as tie

@@ -1,5 +1,5 @@
 use Rattle.kind.specs.Kinds.{rowAt}
-use Rattle.wire.specs.Format.{pick}
+use Rattle.format.specs.Format.{pick}
 use borrow.Author.Tests.{ne-eqb}
 use Rattle.kind.proofs.row_at.Statement.{statement}
 use Rattle.kind.proofs.row_at.Tie as tie

@@ -1,4 +1,4 @@
-use Rattle.wire.specs.Seen.{count-is}
+use Rattle.format.specs.Seen.{count-is}
 use borrow.Author.Needs.{needs}
 use Rattle.wire.proofs.count32_at.Statement.{statement}
 use Rattle.wire.proofs.count32_at.Tie as tie

@@ -1,4 +1,4 @@
-use Rattle.wire.specs.Seen.{fixed-is}
+use Rattle.format.specs.Seen.{fixed-is}
 use borrow.Author.Needs.{needs}
 use Rattle.wire.proofs.fixed24_at.Statement.{statement}
 use Rattle.wire.proofs.fixed24_at.Tie as tie

@@ -1,5 +1,5 @@
-use Rattle.wire.specs.Number.{flag}
-use Rattle.wire.specs.Seen.{reading}
+use Rattle.format.specs.Number.{flag}
+use Rattle.format.specs.Seen.{reading}
 use borrow.Author.Needs.{needs}
 use Rattle.wire.proofs.flag_at.Statement.{statement}
 use Rattle.wire.proofs.flag_at.Tie as tie

@@ -1,4 +1,4 @@
-use Rattle.wire.specs.Seen.{counting}
+use Rattle.format.specs.Seen.{counting}
 use borrow.Author.Needs.{needs}
 use Rattle.wire.proofs.judged_count.Statement.{statement}
 use Rattle.wire.proofs.judged_count.Tie as tie

@@ -1,4 +1,4 @@
-use Rattle.wire.specs.Seen.{fixing}
+use Rattle.format.specs.Seen.{fixing}
 use borrow.Author.Needs.{needs}
 use Rattle.wire.proofs.judged_fixed.Statement.{statement}
 use Rattle.wire.proofs.judged_fixed.Tie as tie

@@ -1,0 +1,125 @@
+-- A format: how a value is read from the front of a list of bytes, how it is written, which values fit, and the laws that tie them.
+use Prim.Native.Nat.{ℕ, zero, suc, _+_, _-_, _≤_, _<_}
+use native.Mathlib.Omega.{arith}
+use mathlib.Core.Path.{_≡_, refl, sym, ap, _∙_}
+use mathlib.Core.Bool.{Bool, true, false}
+use mathlib.Core.List.{List, [], _∷_, _++_}
+use lib.ListN.{length, take, drop, length-append, length-drop}
+use Rattle.format.specs.declared.Fault.{Fault}
+
+-- what is read: a value and how many bytes it took, or a fault and its place; both count from the start of what is read
+pub data Answer (A : Type 0) : Type 0 where
+  got : A → ℕ → Answer A
+  refused : Fault → ℕ → Answer A
+
+-- where a reading ends, or the place of its fault
+unfoldable pub endOf : {A : Type 0} → Answer A → ℕ
+endOf (got x n) = n
+endOf (refused c p) = p
+
+-- each is a byte
+unfoldable pub Bytes : List ℕ → Type 0
+Bytes [] = Unit {0}
+Bytes (x ∷ xs) = (x < 256) × Bytes xs
+
+-- what a reading that found x, n bytes long, tells of the list
+pub record Found {A : Type 0} (write : A → List ℕ) (Fit : A → Type 0) (s : List ℕ) (x : A) (n : ℕ) : Type 0 where
+  pub is : s ≡ write x ++ drop n s
+  pub ends : n ≡ length (write x)
+  pub fit : Fit x
+
+pub record Format (A : Type 0) : Type 1 where
+  pub read : List ℕ → Answer A
+  pub write : A → List ℕ
+  -- which values it can write
+  pub Fit : A → Type 0
+  -- what is written reads back as given, whatever follows
+  pub back : (x : A) (t : List ℕ) → Fit x → read (write x ++ t) ≡ got x (length (write x))
+  -- what was read, written again, gives the same bytes
+  pub forth : (s : List ℕ) (x : A) (n : ℕ) → Bytes s → read s ≡ got x n → Found write Fit s x n
+  -- a reading ends, or is refused, within the list
+  pub inside : (s : List ℕ) → endOf (read s) ≤ length s
+
+-- ---- how answers are put together
+
+-- the answer of a reading that starts b bytes further on
+unfoldable pub shift : {A : Type 0} → ℕ → Answer A → Answer A
+shift b (got x n) = got x (b + n)
+shift b (refused c p) = refused c (b + p)
+
+unfoldable pub mapped : {A B : Type 0} → (A → B) → Answer A → Answer B
+mapped f (got x n) = got (f x) n
+mapped f (refused c p) = refused c p
+
+-- read on with k, from where the first answer ended; a refusal is handed on
+unfoldable pub andThen : {A B : Type 0} → Answer A → (A → ℕ → Answer B) → Answer B
+andThen (got x n) k = shift n (k x n)
+andThen (refused c p) k = refused c p
+
+unfoldable pub pick {ℓ} : {A : Type ℓ} → Bool → A → A → A
+pick true x y = x
+pick false x y = y
+
+-- ---- their laws
+
+-- no value was refused
+pub apart : {A : Type 0} {B : Type 0} {x : A} {n : ℕ} {c : Fault} {p : ℕ} → got x n ≡ refused c p → B
+apart e = absurd (let z : _≡_ {A = ℕ} 0 1 = cc in omega arith)
+
+pub bytes-drop : (n : ℕ) (s : List ℕ) → Bytes s → Bytes (drop n s)
+unfolding Bytes
+bytes-drop zero s b = b
+bytes-drop (suc n) [] b = b
+bytes-drop (suc n) (x ∷ s) b = bytes-drop n s (b .1)
+
+pub bytes-take : (k : ℕ) (s : List ℕ) → Bytes s → Bytes (take k s)
+unfolding Bytes
+bytes-take zero s h = tt
+bytes-take (suc k) [] h = tt
+bytes-take (suc k) (x ∷ s) h = (h .0, bytes-take k s (h .1))
+
+-- a reading that went on, taken apart
+pub record Went {A B : Type 0} (q : Answer A) (k : A → ℕ → Answer B) (y : B) (m : ℕ) : Type 0 where
+  pub x : A
+  pub n : ℕ
+  pub j : ℕ
+  pub first : q ≡ got x n
+  pub rest : k x n ≡ got y j
+  pub sum : m ≡ n + j
+
+shift-got : {A : Type 0} (b : ℕ) (q : Answer A) (x : A) (m : ℕ) → shift b q ≡ got x m → (q ≡ got x (m - b)) × (m ≡ b + (m - b))
+unfolding shift
+shift-got b (got y n) x m e =
+    let em : m ≡ b + n = cc in
+    let ej : m - b ≡ n = omega arith in
+    let ex : y ≡ x = cc in
+    (rw (ej, ex), omega arith)
+shift-got b (refused c p) x m e = apart (sym e)
+
+pub went : {A B : Type 0} (q : Answer A) (k : A → ℕ → Answer B) (y : B) (m : ℕ) → andThen q k ≡ got y m → Went q k y m
+unfolding andThen
+went (got x n) k y m e =
+    let h = shift-got n (k x n) y m e in
+    record { x = x; n = n; j = m - n; first = refl; rest = h .0; sum = h .1 }
+went (refused c p) k y m e = apart (sym e)
+
+pub mapped-got : {A B : Type 0} (f : A → B) (q : Answer A) (y : B) (m : ℕ) → mapped f q ≡ got y m → (x : A) × ((q ≡ got x m) × (y ≡ f x))
+unfolding mapped
+mapped-got f (got x n) y m e = (x, ((cc), (cc)))
+mapped-got f (refused c p) y m e = apart (sym e)
+
+pub end-mapped : {A B : Type 0} (f : A → B) (q : Answer A) → endOf (mapped f q) ≡ endOf q
+unfolding mapped endOf
+end-mapped f (got x n) = refl
+end-mapped f (refused c p) = refl
+
+end-shift : {A : Type 0} (b : ℕ) (q : Answer A) → endOf (shift b q) ≡ b + endOf q
+unfolding shift endOf
+end-shift b (got x n) = refl
+end-shift b (refused c p) = refl
+
+pub end-then : {A B : Type 0} (s : List ℕ) (q : Answer A) (k : A → ℕ → Answer B) → endOf q ≤ length s
+    → ((x : A) (n : ℕ) → endOf (k x n) ≤ length (drop n s)) → endOf (andThen q k) ≤ length s
+unfolding andThen endOf
+end-then s (got x n) k h f = omega (arith, end-shift n (k x n), f x n, length-drop n s)
+end-then s (refused c p) k h f = h

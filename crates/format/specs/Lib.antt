@@ -1,0 +1,10 @@
+pub mod Fault
+pub mod Format
+pub mod Join
+pub mod Number
+pub mod Each
+pub mod Sized
+pub mod Seen
+pub mod Rows
+pub mod Parts
+pub mod Sizes

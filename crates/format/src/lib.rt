@@ -1,0 +1,64 @@
+// Answers: a value or a fault, and their numbers.
+ghost use mathlib.Core.Path.{_≡_};
+ghost use Rattle.format.specs.Fault.{numberOf};
+ghost use Rattle.format.specs.Seen.{toldNothing};
+
+// The rows of document 01's table "Numbers a refusal gives"; specs/Fault.antt has their numbers.
+pub enum Fault {
+    Edition,
+    Long,
+    Cut,
+    Mark,
+    Version,
+    Count,
+    Form,
+    Field,
+    Unknown,
+    Foreign,
+    Date,
+    Size,
+    Over,
+}
+
+// A value with the place past it, or a fault with its place.
+pub enum Read {
+    Got(u64, usize),
+    No(Fault, usize),
+}
+
+// What a call answers: done, with a place or a number as document 01 says; or a fault with its place.
+pub enum Outcome {
+    Done(usize),
+    No(Fault, usize),
+}
+
+// The number of a fault.
+pub fn number_of(fault: Fault) -> u64
+    ensures { λ r. ⌜ r ≡ numberOf fault ⌝ }
+{
+    match fault {
+        Fault::Edition => 1,
+        Fault::Long => 2,
+        Fault::Cut => 3,
+        Fault::Mark => 4,
+        Fault::Version => 5,
+        Fault::Count => 6,
+        Fault::Form => 7,
+        Fault::Field => 8,
+        Fault::Unknown => 9,
+        Fault::Foreign => 10,
+        Fault::Date => 11,
+        Fault::Size => 12,
+        Fault::Over => 13,
+    }
+}
+
+// What was read, with nothing told of it but its end.
+pub fn untold(r: Read) -> Read
+    ensures { λ x. ⌜ x ≡ toldNothing r ⌝ }
+{
+    match r {
+        Read::Got(_, n) => Read::Got(0, n),
+        Read::No(_, _) => r,
+    }
+}

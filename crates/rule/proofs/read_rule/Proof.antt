@@ -1,0 +1,40 @@
+use Rattle.rule.specs.Rule.{rule, fields}
+use Rattle.format.specs.Seen.{reading}
+use borrow.Author.Needs.{needs}
+use Rattle.rule.proofs.read_rule.Statement.{statement}
+use Rattle.rule.proofs.read_rule.Tie as tie
+
+returns : tie.Need-returns
+unfolding rule fields
+returns c = search reading
+
+returns-2 : tie.Need-returns-2
+unfolding rule fields
+returns-2 c = search reading
+
+returns-3 : tie.Need-returns-3
+unfolding rule fields
+returns-3 c = search reading depth 6
+
+returns-4 : tie.Need-returns-4
+unfolding rule fields
+returns-4 c = search reading depth 6
+
+pub read-rule-spec : {M : Type 1} → statement M
+read-rule-spec =
+    tie.close
+    (tie.spec
+    (λ c κs. search needs)
+    (λ c. search needs)
+    (λ c. search needs)
+    returns
+    (λ c κs. search needs)
+    (λ c. search needs)
+    (λ c. search needs)
+    returns-2
+    (λ c κs. search needs)
+    (λ c. search needs)
+    (λ c. search needs)
+    returns-3
+    (λ c κs. search needs)
+    returns-4)

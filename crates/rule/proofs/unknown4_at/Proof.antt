@@ -1,0 +1,32 @@
+use Rattle.rule.specs.Rule.{fromUnknown4}
+use Rattle.format.specs.Seen.{reading}
+use borrow.Author.Needs.{needs}
+use Rattle.rule.proofs.unknown4_at.Statement.{statement}
+use Rattle.rule.proofs.unknown4_at.Tie as tie
+
+returns : tie.Need-returns
+unfolding fromUnknown4
+returns c = search reading
+
+returns-2 : tie.Need-returns-2
+unfolding fromUnknown4
+returns-2 c = search reading
+
+returns-3 : tie.Need-returns-3
+unfolding fromUnknown4
+returns-3 c = search reading
+
+pub unknown4-at-spec : {M : Type 1} → statement M
+unknown4-at-spec =
+    tie.close
+    (tie.spec
+    (λ c κs. search needs)
+    (λ c. search needs)
+    (λ c. search needs)
+    returns
+    (λ c κs. search needs)
+    (λ c. search needs)
+    (λ c. search needs)
+    returns-2
+    (λ c κs. search needs)
+    returns-3)

@@ -1,0 +1,203 @@
+// Rules: their fields in order, from a part of the deck that starts at the rule.
+use format::Fault;
+use format::Read;
+use kind::Product;
+ghost use mathlib.Core.Path.{_≡_};
+ghost use Prim.Native.Nat.{_+_};
+ghost use lib.Dec.{eqb};
+ghost use Rattle.format.specs.Each.{each};
+ghost use Rattle.format.specs.Sized.{sized};
+ghost use Rattle.element.specs.Element.{named};
+ghost use Rattle.format.specs.Seen.{seen, none};
+ghost use Rattle.rule.specs.Rule.{separator, classHead, head, placed, body, fromUnknown4, fromUnknown2, rule};
+
+// 8001.
+fn separator_at(s: &[u8], at: usize) -> Read
+    ensures { λ r. ⌜ r ≡ seen none separator (now (s .entry)) at ⌝ }
+{
+    wire::fixed16_at(s, at, 0x8001, Fault::Field)
+}
+
+// The long head behind its FFFF: 0000, 000C, `CRuleElement`.
+fn class_at(s: &[u8], at: usize) -> Read
+    ensures { λ r. ⌜ r ≡ seen none classHead (now (s .entry)) at ⌝ }
+{
+    let z = wire::fixed16_at(s, at, 0x0000, Fault::Field);
+    let Read::Got(_, p) = z else {
+        return z;
+    };
+    let n = wire::fixed16_at(s, p, 0x000C, Fault::Field);
+    let Read::Got(_, q) = n else {
+        return n;
+    };
+    wire::fixed96_at(s, q, 0x656C_4565_6C75_5243, 0x746E_656D)
+}
+
+// The head of rule i.
+fn head_at(s: &[u8], at: usize, i: u64) -> Read
+    ensures { λ r. ⌜ r ≡ seen none (head i) (now (s .entry)) at ⌝ }
+{
+    if i != 0 {
+        return separator_at(s, at);
+    }
+    let f = wire::fixed16_at(s, at, 0xFFFF, Fault::Field);
+    let Read::Got(_, p) = f else {
+        return f;
+    };
+    class_at(s, p)
+}
+
+// The element at place j of its rule, with 8001 before it where it is not the first; its value is its identifier.
+fn placed_at(s: &[u8], at: usize, product: Product, j: u64) -> Read
+    ensures { λ r. ⌜ r ≡ seen named (placed product j) (now (s .entry)) at ⌝ }
+{
+    if j == 0 {
+        return element::element_at(s, at, product);
+    }
+    let b = separator_at(s, at);
+    let Read::Got(_, p) = b else {
+        return b;
+    };
+    element::element_at(s, p, product)
+}
+
+// n elements of a rule.
+fn elements_at(s: &[u8], at: usize, product: Product, n: u64) -> Read
+    ensures { λ r. ⌜ r ≡ seen none (each (placed product) 0 n) (now (s .entry)) at ⌝ }
+{
+    let mut j = 0;
+    let mut p = at;
+    while j < n {
+        let r = placed_at(s, p, product, j);
+        let Read::Got(_, q) = r else {
+            return r;
+        };
+        p = q;
+        j += 1;
+    }
+    Read::Got(0, p)
+}
+
+// The number of elements of rule i, its head and its elements.
+fn body_at(s: &[u8], at: usize, product: Product, i: u64) -> Read
+    ensures { λ r. ⌜ r ≡ seen none (body product i) (now (s .entry)) at ⌝ }
+{
+    let c = wire::count16_at(s, at, 1, 64);
+    let Read::Got(n, p) = c else {
+        return c;
+    };
+    let h = head_at(s, p, i);
+    let Read::Got(_, q) = h else {
+        return h;
+    };
+    elements_at(s, q, product, n)
+}
+
+// Whether `size` bytes lie between two places.
+fn spans(from: usize, to: usize, size: u64) -> bool
+    ensures { λ r. ⌜ r ≡ eqb (from + size) to ⌝ }
+{
+    if to < from {
+        return false;
+    }
+    (to - from) as u64 == size
+}
+
+// The Data Size of rule i and what it counts.
+fn sized_at(s: &[u8], at: usize, product: Product, i: u64) -> Read
+    ensures { λ r. ⌜ r ≡ seen none (sized Fault.Size (body product i)) (now (s .entry)) at ⌝ }
+{
+    let d = wire::u32_at(s, at);
+    let Read::Got(size, p) = d else {
+        return d;
+    };
+    let b = body_at(s, p, product, i);
+    let Read::Got(_, q) = b else {
+        return b;
+    };
+    if spans(p, q, size) {
+        return b;
+    }
+    Read::No(Fault::Size, at)
+}
+
+// Unknown4, Unknown5, and from Data Size on.
+fn unknown4_at(s: &[u8], at: usize, product: Product, i: u64) -> Read
+    ensures { λ r. ⌜ r ≡ seen none (fromUnknown4 product i) (now (s .entry)) at ⌝ }
+{
+    let a = wire::u32_at(s, at);
+    let Read::Got(_, p) = a else {
+        return a;
+    };
+    let b = wire::u32_at(s, p);
+    let Read::Got(_, q) = b else {
+        return b;
+    };
+    sized_at(s, q, product, i)
+}
+
+// Unknown2, Unknown3, and from Unknown4 on.
+fn unknown2_at(s: &[u8], at: usize, product: Product, i: u64) -> Read
+    ensures { λ r. ⌜ r ≡ seen none (fromUnknown2 product i) (now (s .entry)) at ⌝ }
+{
+    let a = wire::u32_at(s, at);
+    let Read::Got(_, p) = a else {
+        return a;
+    };
+    let b = wire::u32_at(s, p);
+    let Read::Got(_, q) = b else {
+        return b;
+    };
+    unknown4_at(s, q, product, i)
+}
+
+// Rule i at the start of a part.
+fn read_rule(rest: &[u8], product: Product, i: u64) -> Read
+    ensures { λ r. ⌜ r ≡ seen none (rule product i) (now (rest .entry)) 0 ⌝ }
+{
+    let a = wire::u32_at(rest, 0);
+    let Read::Got(_, p) = a else {
+        return a;
+    };
+    let name = text::string_at(rest, p);
+    let Read::Got(_, q) = name else {
+        return name;
+    };
+    let on = wire::flag_at(rest, q);
+    let Read::Got(_, e) = on else {
+        return on;
+    };
+    unknown2_at(rest, e, product, i)
+}
+
+// Rule i at a place.
+pub fn rule_at(s: &[u8], at: usize, product: Product, i: u64) -> Read
+    ensures { λ r. ⌜ r ≡ seen none (rule product i) (now (s .entry)) at ⌝ }
+{
+    if s.len() < at {
+        return Read::No(Fault::Cut, at);
+    }
+    let rest = &s[at..];
+    let r = read_rule(rest, product, i);
+    match r {
+        Read::Got(v, n) => Read::Got(v, at + n),
+        Read::No(c, p) => Read::No(c, at + p),
+    }
+}
+
+// n rules.
+pub fn rules_at(s: &[u8], at: usize, product: Product, n: u64) -> Read
+    ensures { λ r. ⌜ r ≡ seen none (each (rule product) 0 n) (now (s .entry)) at ⌝ }
+{
+    let mut i = 0;
+    let mut p = at;
+    while i < n {
+        let r = rule_at(s, p, product, i);
+        let Read::Got(_, q) = r else {
+            return r;
+        };
+        p = q;
+        i += 1;
+    }
+    Read::Got(0, p)
+}

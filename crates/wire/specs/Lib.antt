@@ -1,9 +1,0 @@
-pub mod Fault
-pub mod Format
-pub mod Join
-pub mod Number
-pub mod Each
-pub mod Sized
-pub mod Seen
-pub mod Rows
-pub mod Parts
