@@ -1,2 +1,5 @@
 pub mod Double
 pub mod Date
+pub mod Moment
+pub mod One
+pub mod Cases

@@ -6,7 +6,7 @@ use mathlib.Core.List.{List, [], _∷_, _++_, map}
 use lib.ListN.{length, replicate}
 use Rattle.format.specs.declared.Fault.{Fault}
 use Rattle.format.specs.Fault.{numberOf}
-use Rattle.format.specs.Format.{Answer, got, refused, shift, mapped, andThen, pick}
+use Rattle.format.specs.Format.{Answer, got, refused, shift, mapped, andThen, pick, whole}
 use Rattle.format.specs.Join.{pair, pairRead, pairWrite, seq, _then_, judged, judgeOf, judge, via, home, atStart, nothing}
 use Rattle.format.specs.Number.{number, numberRead, within, count, fixed, bytes, flag, bit, value, spelt}
 use Rattle.format.specs.Each.{each, eachRead, eachWrite, counted, listed}
@@ -22,7 +22,7 @@ use Rattle.kind.specs.Kinds.{editionOf, has, rowIn, offered, rowOf, rowBy, kind
 use Rattle.element.specs.Data.{plain, oneZero, simpleData}
 use Rattle.element.specs.Element.{identifier, element}
 use Rattle.rule.specs.Rule.{Rule, className, classHead, firstHead, head, placed, body, fromUnknown4, fromUnknown2, fields, rule}
-use Rattle.deck.specs.Deck.{mark, rules, deck, whole, readAs, readBy, readDeck}
+use Rattle.deck.specs.Deck.{mark, header, deck, readAs, readBy, readDeck}
 
 -- "One deck whole": the 70 bytes, and the rule that they are
 unfoldable pub sample : List ℕ
@@ -83,14 +83,14 @@ cases =
     ∷ []
 
 pub cases-hold : map (λ c. answer (c .0)) cases ≡ map (λ c. c .1) cases
-unfolding sample mark rules deck whole readAs readBy readDeck className classHead firstHead head placed body fromUnknown4 fromUnknown2 fields rule identifier element oneZero simpleData editionOf has rowIn offered rowOf rowBy kindOf extended stringLength string sized measured weighed each eachRead counted listed number numberRead within count fixed bytes flag bit value pair pairRead seq _then_ judged judgeOf judge via home atStart nothing shift mapped andThen pick
+unfolding sample mark header deck whole readAs readBy readDeck className classHead firstHead head placed body fromUnknown4 fromUnknown2 fields rule identifier element oneZero simpleData editionOf has rowIn offered rowOf rowBy kindOf extended stringLength string sized measured weighed each eachRead counted listed number numberRead within count fixed bytes flag bit value pair pairRead seq _then_ judged judgeOf judge via home atStart nothing shift mapped andThen pick
 cases-hold = refl
 
 -- the 70 bytes are that rule alone, read and written
 pub sample-reads : readDeck 2 sample ≡ got (ruleA ∷ []) 70
-unfolding sample ruleA mark rules deck whole readAs readBy readDeck className classHead firstHead head placed body fromUnknown4 fromUnknown2 fields rule identifier element oneZero simpleData editionOf has rowIn offered rowOf rowBy kindOf extended stringLength string sized measured weighed each eachRead counted listed number numberRead within count fixed bytes flag bit value pair pairRead seq _then_ judged judgeOf judge via home atStart nothing shift mapped andThen pick
+unfolding sample ruleA mark header deck whole readAs readBy readDeck className classHead firstHead head placed body fromUnknown4 fromUnknown2 fields rule identifier element oneZero simpleData editionOf has rowIn offered rowOf rowBy kindOf extended stringLength string sized measured weighed each eachRead counted listed number numberRead within count fixed bytes flag bit value pair pairRead seq _then_ judged judgeOf judge via home atStart nothing shift mapped andThen pick
 sample-reads = refl
 
 pub sample-writes : deck Studio .write (ruleA ∷ []) ≡ sample
-unfolding sample ruleA mark rules deck className classHead firstHead head placed body fromUnknown4 fromUnknown2 fields rule identifier element oneZero simpleData has rowIn offered rowOf extended stringLength string sized measured each eachWrite counted listed number within count fixed bytes flag bit value spelt pair pairWrite seq _then_ judged via atStart nothing pick
+unfolding sample ruleA mark header deck className classHead firstHead head placed body fromUnknown4 fromUnknown2 fields rule identifier element oneZero simpleData has rowIn offered rowOf extended stringLength string sized measured each eachWrite counted listed number within count fixed bytes flag bit value spelt pair pairWrite seq _then_ judged via atStart nothing pick
 sample-writes = refl

@@ -1,7 +1,8 @@
 -- The deck, its reading whole, and both halves of demand 2: document 01, "The deck" and "Numbers a refusal gives".
-use Prim.Native.Nat.{ℕ, _≤_, _<_}
+use Prim.Native.Nat.{ℕ, _+_, _≤_, _<_}
 use native.Mathlib.Nat.{zero-add}
-use mathlib.Core.Path.{_≡_, refl, sym, ap, _∙_}
+use native.Mathlib.Omega.{arith}
+use mathlib.Core.Path.{_≡_, refl, sym, ap, ap₂, _∙_}
 use mathlib.Core.Bool.{Bool, true, false}
 use mathlib.Core.List.{List, [], _∷_, _++_, append-nil}
 use lib.ListN.{length, drop}
@@ -12,18 +13,22 @@ use Rattle.format.specs.declared.Fault.{Fault}
 use Rattle.format.specs.declared.Fault.the-variants as Fault
 use Rattle.format.specs.declared.Outcome.{Outcome}
 use Rattle.format.specs.declared.Outcome.the-variants.{Done, No}
-use Rattle.format.specs.Format.{Answer, got, refused, endOf, Format, Bytes, pick, apart}
-use Rattle.format.specs.Join.{_then_}
-use Rattle.format.specs.Number.{count, fixed, bytes, value}
+use Rattle.format.specs.Fault.{placeOf}
+use Rattle.format.specs.Format.{Answer, got, refused, shift, mapped, andThen, endOf, Format, Bytes, pick, whole, apart}
+use Rattle.format.specs.Join.{pair, pairRead, judged, via, _then_, then-fit}
+use Rattle.format.specs.Number.{count, within-is, fixed, bytes, value}
 use Rattle.format.specs.Each.{each, each-long, counted}
 use Rattle.format.specs.declared.Read.{Read}
 use Rattle.format.specs.declared.Read.the-variants as Read
-use Rattle.format.specs.Seen.{told, seen, none}
+use Rattle.format.specs.Seen.{told, seen, itself, none, told-got, told-no, pair-stop, pair-go}
+use Rattle.format.specs.Rows.{total, counted-is, row-length}
 use Rattle.kind.specs.declared.Product.{Product}
 use Rattle.kind.specs.declared.Edition.{Edition}
 use Rattle.kind.specs.declared.Edition.the-variants as Edition
 use Rattle.kind.specs.Kinds.{editionOf}
-use Rattle.rule.specs.Rule.{Rule, rule}
+use Rattle.rule.specs.Rule.{Rule, rule, elementsIn}
+use Rattle.deck.specs.declared.Scan.{Scan}
+use Rattle.deck.specs.declared.Scan.the-variants as Scan
 
 -- mark `RDK`
 unfoldable pub mark : List ℕ
@@ -33,20 +38,15 @@ mark = 0x52 ∷ 0x44 ∷ 0x4B ∷ []
 abbrev pub ruleCount : Format ℕ
 ruleCount = count 2 0 256
 
--- "the rules, back to back", behind their number
-unfoldable pub rules : Product → Format (List Rule)
-rules p = counted ruleCount (each (rule p) 0) (each-long (rule p) 0)
+-- mark; version, 1; number of rules
+unfoldable pub header : Format ℕ
+header = bytes mark Fault.Mark then fixed 2 1 Fault.Version then ruleCount
 
--- mark; version, 1; the rules
+-- "the rules, back to back"
 unfoldable pub deck : Product → Format (List Rule)
-deck p = bytes mark Fault.Mark then fixed 2 1 Fault.Version then rules p
+deck p = counted header (each (rule p) 0) (each-long (rule p) 0)
 
--- "to the last byte": 13 where bytes are left over
-unfoldable pub whole : {A : Type 0} → ℕ → Answer A → Answer A
-whole n (got x m) = pick (eqb m n) (got x m) (refused Fault.Over m)
-whole n (refused c q) = refused c q
-
--- "deck over 60,000 bytes": 2; then "left to right"
+-- "deck over 60,000 bytes": 2; then "left to right", "to the last byte"
 unfoldable pub readAs : Product → List ℕ → Answer (List Rule)
 readAs p s = pick (leb (length s) 60000) (whole (length s) (deck p .read s)) (refused Fault.Long 60000)
 
@@ -107,45 +107,120 @@ pub mark-is : (s : List ℕ) (at : ℕ) {r : Read} → r ≡ seen none (fixed 3 
 unfolding bytes mark value
 mark-is s at e = e
 
+-- at most 256 rules were read
+pub header-small : (s : List ℕ) {h : Read} {n m : ℕ} → Bytes s → h ≡ seen itself header s 0 → h ≡ Read.Got n m → n ≤ 256
+unfolding seen header count judged
+header-small s bs e k =
+  let o = told-got 0 itself (header .read s) e k in
+  let f = header .forth s (o .x) (o .n) bs (o .is) .fit in
+  rw (o .tells) (within-is 0 256 (o .x) (then-fit _ _ (o .x) (then-fit _ _ (o .x) f) .1) .1)
+
+-- a pass over the deck tells the number of rules and that of their elements
+abbrev pub scanned : Answer (List Rule) → Scan
+scanned (got rs n) = Scan.Is (length rs) (total elementsIn rs)
+scanned (refused c p) = Scan.No c p
+
+outcome : Scan → Outcome
+outcome (Scan.Is n e) = Done n
+outcome (Scan.No c p) = No c p
+
+scan-answers : (a : Answer (List Rule)) → outcome (scanned a) ≡ answered a
+unfolding outcome
+scan-answers (got rs n) = refl
+scan-answers (refused c p) = refl
+
+module _ (edition : ℕ) (s : List ℕ) {r : Scan} where
+  pub check-is : {n e : ℕ} → r ≡ scanned (readDeck edition s) → r ≡ Scan.Is n e → Done n ≡ answered (readDeck edition s)
+  unfolding outcome
+  check-is e h = sym (ap outcome h) ∙ ap outcome e ∙ scan-answers (readDeck edition s)
+
+  pub check-no : {c : Fault} {q : ℕ} → r ≡ scanned (readDeck edition s) → r ≡ Scan.No c q → No c q ≡ answered (readDeck edition s)
+  unfolding outcome
+  check-no e h = sym (ap outcome h) ∙ ap outcome e ∙ scan-answers (readDeck edition s)
+
 module _ (p : Product) (s : List ℕ) where
-  pub check-long : 60000 < length s → No Fault.Long 60000 ≡ answered (readAs p s)
+  pub scan-long : 60000 < length s → Scan.No Fault.Long 60000 ≡ scanned (readAs p s)
   unfolding readAs pick
-  check-long h = rw (lt-leb (length s) 60000 h)
+  scan-long l = rw (lt-leb (length s) 60000 l)
 
-  -- what the code makes of a reading of the deck
-  finished : Read → Outcome
-  finished (Read.Got n q) = pick (eqb q (length s)) (Done n) (No Fault.Over q)
-  finished (Read.No c q) = No c q
+  scan-of : {a : Answer (List Rule)} → length s ≤ 60000 → deck p .read s ≡ a → scanned (readAs p s) ≡ scanned (whole (length s) a)
+  unfolding readAs pick
+  scan-of l e = rw (le-leb (length s) 60000 l, e)
 
-  read-is : {r : Read} → length s ≤ 60000 → r ≡ seen length (deck p) s 0 → answered (readAs p s) ≡ finished r
-  unfolding readAs seen whole told pick finished
-  read-is {r} h e = rw (le-leb (length s) 60000 h) (go (deck p .read s)) ∙ sym (ap finished e)
-    where
-      ends : (t : Bool) (rs : List Rule) (m : ℕ) → answered (pick t (got rs m) (refused Fault.Over m)) ≡ pick t (Done (length rs)) (No Fault.Over m)
-      ends true rs m = refl
-      ends false rs m = refl
+  scan-no : (g : List Rule → ℕ) {r : Read} {c : Fault} {q : ℕ} → length s ≤ 60000 → r ≡ seen g (deck p) s 0 → r ≡ Read.No c q → Scan.No c q ≡ scanned (readAs p s)
+  unfolding seen whole
+  scan-no g {c = c} l e k =
+    let o = told-no 0 g (deck p .read s) e k in
+    sym (scan-of l (o .is) ∙ ap (λ (w : ℕ). Scan.No c w) (sym (o .ends ∙ zero-add (o .o))))
 
-      go : (a : Answer (List Rule)) → answered (whole (length s) a) ≡ finished (told 0 length a)
-      go (got rs m) = rw zero-add (ends (eqb m (length s)) rs m)
-      go (refused c q) = rw zero-add
+  deck-got : (n m : ℕ) (rs : List Rule) (j : ℕ) → header .read s ≡ got n m → each (rule p) 0 n .read (drop m s) ≡ got rs j → deck p .read s ≡ got rs (m + j)
+  unfolding deck counted via pair pairRead andThen mapped shift
+  deck-got n m rs j e f = rw (e, f)
 
-  module _ {r : Read} {q : ℕ} (h : length s ≤ 60000) (e : r ≡ seen length (deck p) s 0) where
-    pub check-no : {c : Fault} → r ≡ Read.No c q → No c q ≡ answered (readAs p s)
-    unfolding finished
-    check-no k = sym (read-is h e ∙ ap finished k)
+  -- h is what the header was read as, r the rules behind it
+  module _ {h : Read} where
+    pub scan-header : {c : Fault} {q : ℕ} → length s ≤ 60000 → h ≡ seen itself header s 0 → h ≡ Read.No c q → Scan.No c q ≡ scanned (readAs p s)
+    unfolding deck
+    scan-header l e k = scan-no length l (counted-is length header (each (rule p) 0) _ s 0 (pair-stop _ header _ s 0 itself e k)) k
 
-    pub check-over : {n : ℕ} → r ≡ Read.Got n q → (q ≡ length s → ⊥) → No Fault.Over q ≡ answered (readAs p s)
-    unfolding finished pick
-    check-over k w = sym (read-is h e ∙ ap finished k ∙ rw (ne-eqb q (length s) w))
+    module _ {r : Read} {n m : ℕ} where
+      totals : h ≡ seen itself header s 0 → h ≡ Read.Got n m → r ≡ seen (total elementsIn) (each (rule p) 0 n) s m → r ≡ seen (total elementsIn) (deck p) s 0
+      unfolding deck
+      totals e k f = counted-is (total elementsIn) header (each (rule p) 0) _ s 0 (pair-go _ header (each (rule p) 0) s 0 e k f)
 
-    pub check-is : {n : ℕ} → r ≡ Read.Got n q → q ≡ length s → Done n ≡ answered (readAs p s)
-    unfolding finished pick
-    check-is k w = sym (read-is h e ∙ ap finished k ∙ rw (eq-eqb q (length s) w))
+      pub scan-rules : {c : Fault} {q : ℕ} → length s ≤ 60000 → h ≡ seen itself header s 0 → h ≡ Read.Got n m → r ≡ seen (total elementsIn) (each (rule p) 0 n) s m → r ≡ Read.No c q → Scan.No c q ≡ scanned (readAs p s)
+      scan-rules l e k f o = scan-no (total elementsIn) l (totals e k f) o
 
-pub check-by : (edition : ℕ) (s : List ℕ) {e : Edition} {p : Product} {r : Outcome} → e ≡ editionOf edition → e ≡ Edition.Of p → r ≡ answered (readAs p s) → r ≡ answered (readDeck edition s)
+      module _ {t q : ℕ} where
+        scan-got : (b : Bool) → length s ≤ 60000 → h ≡ seen itself header s 0 → h ≡ Read.Got n m → r ≡ seen (total elementsIn) (each (rule p) 0 n) s m → r ≡ Read.Got t q → eqb q (length s) ≡ b
+          → scanned (readAs p s) ≡ pick b (Scan.Is n t) (Scan.No Fault.Over q)
+        unfolding seen whole pick
+        scan-got b l e k f o w =
+          let x = told-got 0 itself (header .read s) e k in
+          let y = told-got m (total elementsIn) (each (rule p) 0 n .read (drop m s)) f o in
+          let xh : header .read s ≡ got n m = x .is ∙ ap₂ (λ (u v : ℕ). got u v) (sym (x .tells)) (sym (x .ends ∙ zero-add (x .n))) in
+          scan-of l (deck-got n m (y .x) (y .n) xh (y .is))
+          ∙ go b (y .x) (m + y .n) (ap (λ (u : ℕ). eqb u (length s)) (sym (y .ends)) ∙ w) (row-length (rule p) 0 n (drop m s) (y .x) (y .n) (y .is)) (sym (y .tells)) (sym (y .ends))
+          where
+            go : (b : Bool) (rs : List Rule) (d : ℕ) → eqb d (length s) ≡ b → length rs ≡ n → total elementsIn rs ≡ t → d ≡ q → scanned (pick (eqb d (length s)) (got rs d) (refused Fault.Over d)) ≡ pick b (Scan.Is n t) (Scan.No Fault.Over q)
+            go true rs d ew en et eq = rw (ew, en, et)
+            go false rs d ew en et eq = rw (ew, eq)
+
+        pub scan-over : length s ≤ 60000 → h ≡ seen itself header s 0 → h ≡ Read.Got n m → r ≡ seen (total elementsIn) (each (rule p) 0 n) s m → r ≡ Read.Got t q → (q ≡ length s → ⊥) → Scan.No Fault.Over q ≡ scanned (readAs p s)
+        unfolding pick
+        scan-over l e k f o w = sym (scan-got false l e k f o (ne-eqb q (length s) w))
+
+        pub scan-is : length s ≤ 60000 → h ≡ seen itself header s 0 → h ≡ Read.Got n m → r ≡ seen (total elementsIn) (each (rule p) 0 n) s m → r ≡ Read.Got t q → q ≡ length s → Scan.Is n t ≡ scanned (readAs p s)
+        unfolding pick
+        scan-is l e k f o w = sym (scan-got true l e k f o (eq-eqb q (length s) w))
+
+-- an edition's number first
+pub scan-by : (edition : ℕ) (s : List ℕ) {e : Edition} {p : Product} {r : Scan} → e ≡ editionOf edition → e ≡ Edition.Of p → r ≡ scanned (readAs p s) → r ≡ scanned (readDeck edition s)
 unfolding readDeck readBy
-check-by edition s f h o = rw (← f, h) o
+scan-by edition s f h o = rw (← f, h) o
 
-pub check-none : (edition : ℕ) (s : List ℕ) {e : Edition} → e ≡ editionOf edition → e ≡ Edition.Unknown → No Fault.Edition 0 ≡ answered (readDeck edition s)
+pub scan-none : (edition : ℕ) (s : List ℕ) {e : Edition} → e ≡ editionOf edition → e ≡ Edition.Unknown → Scan.No Fault.Edition 0 ≡ scanned (readDeck edition s)
 unfolding readDeck readBy
-check-none edition s f h = rw (← f, h)
+scan-none edition s f h = rw (← f, h)
+
+-- ---- no place that a read answers is above 60,000
+deck-small : (p : Product) (rs : List Rule) → deck p .Fit rs → length rs ≤ 256
+unfolding deck counted via pair header count judged
+deck-small p rs f = within-is 0 256 (length rs) (then-fit _ _ (length rs) (then-fit _ _ (length rs) (f .0 .0)) .1) .1
+
+pub place-small : (edition : ℕ) (s : List ℕ) → Bytes s → placeOf (answered (readDeck edition s)) ≤ 60000
+unfolding readDeck readBy readAs whole pick endOf
+place-small edition s bs = by (editionOf edition)
+  where
+    over : (p : Product) (b : Bool) (rs : List Rule) (m : ℕ) → m ≤ 60000 → length rs ≤ 256 → placeOf (answered (pick b (got rs m) (refused Fault.Over m))) ≤ 60000
+    over p true rs m h k = omega arith
+    over p false rs m h k = h
+    read : (p : Product) (a : Answer (List Rule)) → deck p .read s ≡ a → length s ≤ 60000 → endOf a ≤ length s → placeOf (answered (whole (length s) a)) ≤ 60000
+    read p (got rs m) e h k = over p (eqb m (length s)) rs m (omega arith) (deck-small p rs (deck p .forth s rs m bs e .fit))
+    read p (refused c q) e h k = omega arith
+    long : (p : Product) (b : Bool) → leb (length s) 60000 ≡ b → placeOf (answered (pick b (whole (length s) (deck p .read s)) (refused Fault.Long 60000))) ≤ 60000
+    long p true e = read p (deck p .read s) refl (leb-true (length s) 60000 e) (deck p .inside s)
+    long p false e = omega arith
+    by : (e : Edition) → placeOf (answered (readBy e s)) ≤ 60000
+    by (Edition.Of p) = long p (leb (length s) 60000) refl
+    by Edition.Unknown = omega arith

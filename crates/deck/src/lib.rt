@@ -1,32 +1,27 @@
-// The deck: its check.
+// The deck: a pass over it, and its check.
 use format::Fault;
 use format::Outcome;
 use format::Read;
 use kind::Edition;
 use kind::Product;
 ghost use mathlib.Core.Path.{_≡_};
+ghost use Prim.Native.Nat.{_≤_};
 ghost use lib.ListN.{length};
-ghost use Rattle.format.specs.Seen.{seen};
-ghost use Rattle.deck.specs.Deck.{rules, deck, answered, readAs, readDeck};
+ghost use Rattle.format.specs.Each.{each};
+ghost use Rattle.format.specs.Rows.{total};
+ghost use Rattle.format.specs.Seen.{seen, itself};
+ghost use Rattle.rule.specs.Rule.{rule, elementsIn};
+ghost use Rattle.deck.specs.Deck.{header, readAs, readDeck, scanned, answered};
 
-// The number of rules and they; the value is their number.
-fn counted_at(s: &[u8], at: usize, product: Product) -> Read
-    ensures { λ r. ⌜ r ≡ seen length (rules product) (now (s .entry)) at ⌝ }
-{
-    let c = wire::count16_at(s, at, 0, 256);
-    let Read::Got(n, p) = c else {
-        return c;
-    };
-    let r = rule::rules_at(s, p, product, n);
-    let Read::Got(_, q) = r else {
-        return r;
-    };
-    Read::Got(n, q)
+// What a pass over a deck tells: the number of rules and that of their elements; or a fault with its place.
+pub enum Scan {
+    Is(u64, u64),
+    No(Fault, usize),
 }
 
-// The deck from its start; the value is the number of rules.
-fn deck_at(s: &[u8], product: Product) -> Read
-    ensures { λ r. ⌜ r ≡ seen length (deck product) (now (s .entry)) 0 ⌝ }
+// Mark and version; the value is the number of rules.
+fn header_at(s: &[u8]) -> Read
+    ensures { λ r. ⌜ r ≡ seen itself header (now (s .entry)) 0 ⌝ }
 {
     let m = wire::fixed24_at(s, 0, 0x4B_4452, Fault::Mark);
     let Read::Got(_, p) = m else {
@@ -36,35 +31,72 @@ fn deck_at(s: &[u8], product: Product) -> Read
     let Read::Got(_, q) = v else {
         return v;
     };
-    counted_at(s, q, product)
+    wire::count16_at(s, q, 0, 256)
 }
 
-// A deck read by a product: 2 first, 13 last.
-pub fn check_as(product: Product, s: &[u8]) -> Outcome
-    ensures { λ r. ⌜ r ≡ answered (readAs product (now (s .entry))) ⌝ }
+// n rules; the value is the number of their elements.
+fn rules_at(s: &[u8], at: usize, product: Product, n: u64) -> Read
+    requires { ⌜ n ≤ 256 ⌝ }
+    ensures { λ r. ⌜ r ≡ seen (total elementsIn) (each (rule product) 0 n) (now (s .entry)) at ⌝ }
+{
+    let mut i = 0;
+    let mut t = 0;
+    let mut p = at;
+    while i < n {
+        let r = rule::rule_at(s, p, product, i);
+        let Read::Got(v, q) = r else {
+            return r;
+        };
+        t += v;
+        p = q;
+        i += 1;
+    }
+    Read::Got(t, p)
+}
+
+// A pass over a deck by a product: 2 first, 13 last.
+fn pass_as(product: Product, s: &[u8]) -> Scan
+    ensures { λ r. ⌜ r ≡ scanned (readAs product (now (s .entry))) ⌝ }
 {
     if 60000 < s.len() {
-        return Outcome::No(Fault::Long, 60000);
+        return Scan::No(Fault::Long, 60000);
     }
-    let r = deck_at(s, product);
-    match r {
-        Read::Got(n, e) => {
-            if e != s.len() {
-                return Outcome::No(Fault::Over, e);
+    let h = header_at(s);
+    match h {
+        Read::No(c, p) => Scan::No(c, p),
+        Read::Got(n, p) => {
+            let r = rules_at(s, p, product, n);
+            match r {
+                Read::No(c, q) => Scan::No(c, q),
+                Read::Got(t, q) => {
+                    if q != s.len() {
+                        return Scan::No(Fault::Over, q);
+                    }
+                    Scan::Is(n, t)
+                }
             }
-            Outcome::Done(n as usize)
         }
-        Read::No(c, p) => Outcome::No(c, p),
     }
 }
 
-// The deck check.
-pub fn check(edition: u64, s: &[u8]) -> Outcome
-    ensures { λ r. ⌜ r ≡ answered (readDeck edition (now (s .entry))) ⌝ }
+// A pass over a deck.
+pub fn pass(edition: u64, s: &[u8]) -> Scan
+    ensures { λ r. ⌜ r ≡ scanned (readDeck edition (now (s .entry))) ⌝ }
 {
     let e = kind::edition_of(edition);
     let Edition::Of(product) = e else {
-        return Outcome::No(Fault::Edition, 0);
+        return Scan::No(Fault::Edition, 0);
     };
-    check_as(product, s)
+    pass_as(product, s)
+}
+
+// The deck check: the number of rules, or a refusal.
+pub fn check(edition: u64, s: &[u8]) -> Outcome
+    ensures { λ r. ⌜ r ≡ answered (readDeck edition (now (s .entry))) ⌝ }
+{
+    let r = pass(edition, s);
+    match r {
+        Scan::Is(n, _) => Outcome::Done(n as usize),
+        Scan::No(c, p) => Outcome::No(c, p),
+    }
 }

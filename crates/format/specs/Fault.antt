@@ -1,7 +1,10 @@
 -- The numbers of the refusals: document 01, "Numbers a refusal gives".
-use Prim.Native.Nat.{ℕ}
+use Prim.Native.Nat.{ℕ, _+_, _*_, _<_}
+use lib.Dec.{lit<}
 use Rattle.format.specs.declared.Fault.{Fault}
-use Rattle.format.specs.declared.Fault.the-variants.{Edition, Long, Cut, Mark, Version, Count, Form, Field, Unknown, Foreign, Date, Size, Over}
+use Rattle.format.specs.declared.Fault.the-variants.{Edition, Long, Cut, Mark, Version, Count, Form, Field, Unknown, Foreign, Date, Size, Over, Table, Stated, Absent, Text, Rules, Large, Room, Full, Last}
+use Rattle.format.specs.declared.Outcome.{Outcome}
+use Rattle.format.specs.declared.Outcome.the-variants.{Done, No, Given}
 
 abbrev pub numberOf : Fault → ℕ
 -- edition not 1 or 2
@@ -30,3 +33,61 @@ numberOf Date = 11
 numberOf Size = 12
 -- bytes left over
 numberOf Over = 13
+-- rule table / element table too small
+numberOf Table = 14
+-- stated length beyond the buffer
+numberOf Stated = 15
+-- no rule k or place k / no rule j; for a view: no such rule / element / word, or no word list there
+numberOf Absent = 16
+-- new name or word has an odd byte count or over 510 bytes
+numberOf Text = 17
+-- result over 256 rules
+numberOf Rules = 18
+-- result over 60,000 bytes
+numberOf Large = 19
+-- result longer than the buffer
+numberOf Room = 20
+-- rule has 64 elements, or list has 64 words
+numberOf Full = 21
+-- no rule, or last element is no word list
+numberOf Last = 22
+
+-- the number and the place that an outcome gives: "0 accepted", and "34 to 45: 2 to 13 plus 32"
+abbrev pub codeOf : Outcome → ℕ
+codeOf (Done n) = 0
+codeOf (No c p) = numberOf c
+codeOf (Given c p) = numberOf c + 32
+
+abbrev pub placeOf : Outcome → ℕ
+placeOf (Done n) = n
+placeOf (No c p) = p
+placeOf (Given c p) = p
+
+-- "one 64-bit number, code plus 256 times place"
+abbrev pub packed : Outcome → ℕ
+packed o = codeOf o + 256 * placeOf o
+
+-- every number of the table is below 32
+pub number-small : (c : Fault) → numberOf c < 32
+number-small Edition = lit< tt
+number-small Long = lit< tt
+number-small Cut = lit< tt
+number-small Mark = lit< tt
+number-small Version = lit< tt
+number-small Count = lit< tt
+number-small Form = lit< tt
+number-small Field = lit< tt
+number-small Unknown = lit< tt
+number-small Foreign = lit< tt
+number-small Date = lit< tt
+number-small Size = lit< tt
+number-small Over = lit< tt
+number-small Table = lit< tt
+number-small Stated = lit< tt
+number-small Absent = lit< tt
+number-small Text = lit< tt
+number-small Rules = lit< tt
+number-small Large = lit< tt
+number-small Room = lit< tt
+number-small Full = lit< tt
+number-small Last = lit< tt

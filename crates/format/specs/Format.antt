@@ -4,8 +4,12 @@ use native.Mathlib.Omega.{arith}
 use mathlib.Core.Path.{_≡_, refl, sym, ap, _∙_}
 use mathlib.Core.Bool.{Bool, true, false}
 use mathlib.Core.List.{List, [], _∷_, _++_}
-use lib.ListN.{length, take, drop, length-append, length-drop}
+use lib.Dec.{eqb}
+use mir.Syntax.{w8}
+use mir.Val.{Fits}
+use lib.ListN.{length, getD, take, drop, length-append, length-drop}
 use Rattle.format.specs.declared.Fault.{Fault}
+use Rattle.format.specs.declared.Fault.the-variants.{Over}
 
 -- what is read: a value and how many bytes it took, or a fault and its place; both count from the start of what is read
 pub data Answer (A : Type 0) : Type 0 where
@@ -60,6 +64,11 @@ unfoldable pub pick {ℓ} : {A : Type ℓ} → Bool → A → A → A
 pick true x y = x
 pick false x y = y
 
+-- "to the last byte": 13 where bytes are left over
+unfoldable pub whole : {A : Type 0} → ℕ → Answer A → Answer A
+whole n (got x m) = pick (eqb m n) (got x m) (refused Over m)
+whole n (refused c q) = refused c q
+
 -- ---- their laws
 
 -- no value was refused
@@ -77,6 +86,12 @@ unfolding Bytes
 bytes-take zero s h = tt
 bytes-take (suc k) [] h = tt
 bytes-take (suc k) (x ∷ s) h = (h .0, bytes-take k s (h .1))
+
+-- what is known of a byte slice: each fits a byte
+pub bytes-all : (s : List ℕ) → ((i : ℕ) → Fits w8 (getD s i 0)) → Bytes s
+unfolding Bytes
+bytes-all [] h = tt
+bytes-all (x ∷ s) h = (h zero .fits, bytes-all s (λ i. h (suc i)))
 
 -- a reading that went on, taken apart
 pub record Went {A B : Type 0} (q : Answer A) (k : A → ℕ → Answer B) (y : B) (m : ℕ) : Type 0 where

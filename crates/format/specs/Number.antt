@@ -146,3 +146,12 @@ value-join j k s at {x} {y} ex ey h =
     let l : length (take j (drop at s)) ≡ j = length-take-le j (drop at s) (omega (arith, length-drop at s)) in
     let d : y ≡ value (take k (drop j (drop at s))) = rw drop-drop ey in
     rw (take-add j k (drop at s), value-append, l, ← ex, ← d)
+
+-- a count within its range
+pub within-is : (low high n : ℕ) → within low high n ≡ true → (low ≤ n) × (n ≤ high)
+unfolding within
+within-is low high n e = go (leb low n) refl e
+  where
+    go : (b : Bool) → leb low n ≡ b → (b && leb n high) ≡ true → (low ≤ n) × (n ≤ high)
+    go true l h = (leb-true low n l, leb-true n high h)
+    go false l h = absurd (let z : _≡_ {A = ℕ} 0 1 = cc in omega arith)

@@ -1,6 +1,6 @@
 -- Rows as the code reads them: one value after the other, by the set `running`; a row of numbers, all at once.
 use Prim.Native.Nat.{ℕ, zero, suc, _+_, _-_, _*_, _≤_, _<_}
-use native.Mathlib.Nat.{add-zero, mul-zero, mul-suc}
+use native.Mathlib.Nat.{add-zero, zero-add, add-assoc, mul-zero, mul-suc}
 use native.Mathlib.Omega.{arith}
 use native.Mathlib.Decide.{decLt}
 use mathlib.Core.Path.{_≡_, refl, sym, ap, _∙_}
@@ -16,39 +16,97 @@ use Rattle.format.specs.Format.{Answer, got, refused, shift, mapped, and
 use Rattle.format.specs.Number.{number, numberRead, value}
 use Rattle.format.specs.Join.{pair}
 use Rattle.format.specs.Each.{each, eachRead, counted, listed, each-long}
-use Rattle.format.specs.Seen.{told, seen, none, itself, told-got, on-go, on-stop, told-mapped, via-is}
+use Rattle.format.specs.Seen.{told, seen, none, itself, told-got, on-stop, told-shift, told-mapped, via-is}
 
--- of a row of n the i first are read: none is left; the next is read; the next is refused
-module _ {A : Type 0} (a : ℕ → Format A) (s : List ℕ) (n i at : ℕ) where
-  rest-of : ℕ → ℕ → Answer (List A)
-  rest-of k m = eachRead a (i + 1) k (drop m (drop at s))
+-- of a row of n the i first are read: none is left; the next is refused; the next is read
+module _ {A : Type 0} (h : List A → ℕ) (a : ℕ → Format A) (s : List ℕ) (n i at : ℕ) where
+  rest-of : A → ℕ → Answer (List A)
+  rest-of x m = mapped (λ xs. x ∷ xs) (eachRead a (i + 1) (n - (i + 1)) (drop m (drop at s)))
 
-  pub run-done : {whole : Read} → seen none (each a i (n - i)) s at ≡ whole → n ≤ i → Got 0 at ≡ whole
+  next : i < n → seen h (each a i (n - i)) s at ≡ told at h (andThen (a i .read (drop at s)) rest-of)
+  unfolding seen each eachRead rest-of
+  next l = let e : n - i ≡ suc (n - (i + 1)) = omega arith in ap (λ (k : ℕ). told at h (eachRead a i k (drop at s))) e
+
+  row-end : n ≤ i → seen h (each a i (n - i)) s at ≡ Got (h []) at
   unfolding seen each eachRead told
-  run-done w h = let z : n - i ≡ 0 = omega arith in sym (ap (λ (k : ℕ). told at none (eachRead a i k (drop at s))) z ∙ rw add-zero) ∙ w
+  row-end l = let z : n - i ≡ 0 = omega arith in ap (λ (k : ℕ). told at h (eachRead a i k (drop at s))) z ∙ rw add-zero
 
-  next : (n - i ≡ suc (n - (i + 1))) → eachRead a i (n - i) (drop at s) ≡ andThen (a i .read (drop at s)) (λ x m. mapped (λ xs. x ∷ xs) (rest-of (n - (i + 1)) m))
-  unfolding eachRead rest-of
-  next e = ap (λ (k : ℕ). eachRead a i k (drop at s)) e
+  row-stop : (g : A → ℕ) {r : Read} {c : Fault} {p : ℕ} → i < n → r ≡ seen g (a i) s at → r ≡ No c p → r ≡ seen h (each a i (n - i)) s at
+  unfolding seen
+  row-stop g l e k = on-stop h (a i .read (drop at s)) rest-of at g e k ∙ sym (next l)
 
-  pub run-go : (g : A → ℕ) {whole r : Read} {v p : ℕ} → seen none (each a i (n - i)) s at ≡ whole → i < n
-      → r ≡ seen g (a i) s at → r ≡ Got v p → seen none (each a (i + 1) (n - (i + 1))) s p ≡ whole
-  unfolding seen each rest-of
-  run-go g {p = p} w h e k =
-      on-go none (a i .read (drop at s)) (λ x m. mapped (λ xs. x ∷ xs) (rest-of (n - (i + 1)) m)) at g e k
-      (λ x m ev em. rw (em, drop-drop m at s) (sym (told-mapped (at + m) none (λ xs. x ∷ xs) (eachRead a (i + 1) (n - (i + 1)) (drop (at + m) s)))))
-      ∙ sym (ap (told at none) (next (omega arith))) ∙ w
+  row-go : (g : A → ℕ) {r : Read} {v p : ℕ} → i < n → r ≡ seen g (a i) s at → r ≡ Got v p
+    → (x : A) × ((v ≡ g x) × (seen (λ xs. h (x ∷ xs)) (each a (i + 1) (n - (i + 1))) s p ≡ seen h (each a i (n - i)) s at))
+  unfolding seen each rest-of andThen
+  row-go g {v = v} {p = p} l e k =
+    let o = told-got at g (a i .read (drop at s)) e k in
+    let m = o .n in
+    let tail : List ℕ → Answer (List A) = eachRead a (i + 1) (n - (i + 1)) in
+    let d : drop m (drop at s) ≡ drop p s = drop-drop m at s ∙ ap (λ (w : ℕ). drop w s) (sym (o .ends)) in
+    (o .x, (o .tells,
+      sym (next l ∙ ap (λ (q : Answer A). told at h (andThen q rest-of)) (o .is) ∙ told-shift at m h (rest-of (o .x) m) ∙ told-mapped (at + m) h (λ xs. o .x ∷ xs) (tail (drop m (drop at s)))
+      ∙ ap (λ (w : ℕ). told w (λ xs. h (o .x ∷ xs)) (tail (drop m (drop at s)))) (sym (o .ends)) ∙ ap (λ (t : List ℕ). told p (λ xs. h (o .x ∷ xs)) (tail t)) d)))
 
-  pub run-stop : (g : A → ℕ) {whole r : Read} {c : Fault} {p : ℕ} → seen none (each a i (n - i)) s at ≡ whole → i < n
-      → r ≡ seen g (a i) s at → r ≡ No c p → r ≡ whole
-  unfolding seen each
-  run-stop g w h e k =
-      on-stop none (a i .read (drop at s)) (λ x m. mapped (λ xs. x ∷ xs) (rest-of (n - (i + 1)) m)) at g e k ∙ sym (ap (told at none) (next (omega arith))) ∙ w
+-- nothing is told of the row: the set `running`
+module _ {A : Type 0} (a : ℕ → Format A) (s : List ℕ) (n i at : ℕ) {whole : Read} where
+  pub run-done : seen none (each a i (n - i)) s at ≡ whole → n ≤ i → Got 0 at ≡ whole
+  run-done w l = sym (row-end none a s n i at l) ∙ w
+
+  pub run-stop : (g : A → ℕ) {r : Read} {c : Fault} {p : ℕ} → seen none (each a i (n - i)) s at ≡ whole → i < n → r ≡ seen g (a i) s at → r ≡ No c p → r ≡ whole
+  run-stop g w l e k = row-stop none a s n i at g l e k ∙ w
+
+  pub run-go : (g : A → ℕ) {r : Read} {v p : ℕ} → seen none (each a i (n - i)) s at ≡ whole → i < n → r ≡ seen g (a i) s at → r ≡ Got v p
+    → seen none (each a (i + 1) (n - (i + 1))) s p ≡ whole
+  run-go g w l e k = row-go none a s n i at g l e k .1 .1 ∙ w
 
 pub run-start : {A : Type 0} (a : ℕ → Format A) (s : List ℕ) (n at : ℕ) → seen none (each a 0 (n - 0)) s at ≡ seen none (each a 0 n) s at
 run-start a s n at = let z : n - 0 ≡ n = omega arith in ap (λ (k : ℕ). seen none (each a 0 k) s at) z
 
 pub ruleset running = (run-start, run-stop, run-go, run-done)
+
+-- the sum is told of what is told of each: the set `summing`
+unfoldable pub total : {A : Type 0} → (A → ℕ) → List A → ℕ
+total g [] = 0
+total g (x ∷ xs) = g x + total g xs
+
+-- an answer that tells t more
+abbrev pub added : ℕ → Read → Read
+added t (Got v m) = Got (t + v) m
+added t (No c p) = No c p
+
+added-none : (r : Read) → added 0 r ≡ r
+added-none (Got v m) = rw zero-add
+added-none (No c p) = refl
+
+added-twice : (t v : ℕ) (r : Read) → added t (added v r) ≡ added (t + v) r
+added-twice t v (Got w m) = rw add-assoc
+added-twice t v (No c p) = refl
+
+told-added : {A : Type 0} (p v : ℕ) (h : A → ℕ) (q : Answer A) → told p (λ x. v + h x) q ≡ added v (told p h q)
+unfolding told
+told-added p v h (got x m) = refl
+told-added p v h (refused c o) = refl
+
+module _ {A : Type 0} (g : A → ℕ) (a : ℕ → Format A) (s : List ℕ) (n i at t : ℕ) {whole : Read} where
+  pub sum-done : added t (seen (total g) (each a i (n - i)) s at) ≡ whole → n ≤ i → Got t at ≡ whole
+  unfolding total
+  sum-done w l = sym (ap (added t) (row-end (total g) a s n i at l) ∙ rw add-zero) ∙ w
+
+  pub sum-stop : {r : Read} {c : Fault} {p : ℕ} → added t (seen (total g) (each a i (n - i)) s at) ≡ whole → i < n → r ≡ seen g (a i) s at → r ≡ No c p → r ≡ whole
+  sum-stop w l e k = k ∙ ap (added t) (sym k ∙ row-stop (total g) a s n i at g l e k) ∙ w
+
+  pub sum-go : {r : Read} {v p : ℕ} → added t (seen (total g) (each a i (n - i)) s at) ≡ whole → i < n → r ≡ seen g (a i) s at → r ≡ Got v p
+    → added (t + v) (seen (total g) (each a (i + 1) (n - (i + 1))) s p) ≡ whole
+  unfolding seen total
+  sum-go {v = v} {p = p} w l e k =
+    let o = row-go (total g) a s n i at g l e k in
+    let rest = each a (i + 1) (n - (i + 1)) .read (drop p s) in
+    sym (added-twice t v (told p (total g) rest)) ∙ ap (added t) (sym (told-added p v (total g) rest) ∙ ap (λ (u : ℕ). told p (λ xs. u + total g xs) rest) (o .1 .0) ∙ o .1 .1) ∙ w
+
+pub sum-start : {A : Type 0} (g : A → ℕ) (a : ℕ → Format A) (s : List ℕ) (n at : ℕ) → added 0 (seen (total g) (each a 0 (n - 0)) s at) ≡ seen (total g) (each a 0 n) s at
+sum-start g a s n at = let z : n - 0 ≡ n = omega arith in added-none (seen (total g) (each a 0 (n - 0)) s at) ∙ ap (λ (k : ℕ). seen (total g) (each a 0 k) s at) z
+
+pub ruleset summing = (sum-start, sum-stop, sum-go, sum-done)
 
 -- a number of them, then they
 module _ {A : Type 0} (g : List A → ℕ) (l : Format ℕ) (a : ℕ → Format (List A)) (long : (n : ℕ) (xs : List A) → a n .Fit xs → length xs ≡ n) (s : List ℕ) (at : ℕ) where
@@ -68,6 +126,10 @@ read-long a i (suc n) t xs m e =
     let w = went (a i .read t) (λ x k. mapped (λ xs. x ∷ xs) (eachRead a (i + 1) n (drop k t))) xs m e in
     let v = mapped-got (λ xs. w .x ∷ xs) (eachRead a (i + 1) n (drop (w .n) t)) xs (w .j) (w .rest) in
     rw (v .1 .1) (ap suc (read-long a (i + 1) n (drop (w .n) t) (v .0) (w .j) (v .1 .0)))
+
+pub row-length : {A : Type 0} (a : ℕ → Format A) (i n : ℕ) (t : List ℕ) (xs : List A) (m : ℕ) → each a i n .read t ≡ got xs m → length xs ≡ n
+unfolding each
+row-length a i n t xs m e = read-long a i n t xs m e
 
 pub row-long : {A : Type 0} (a : ℕ → Format A) (i n : ℕ) (s : List ℕ) (at : ℕ) {r : Read} {v m : ℕ} → r ≡ seen none (each a i n) s at → r ≡ Got v m → Got n m ≡ seen length (each a i n) s at
 unfolding seen each told

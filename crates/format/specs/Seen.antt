@@ -62,7 +62,7 @@ unfolding told
 told-no at f (got x n) e h = unlike e h
 told-no at f (refused d o) e h = record { o = o; is = (cc); ends = (cc) }
 
-told-shift : {A : Type 0} (at n : ℕ) (f : A → ℕ) (q : Answer A) → told at f (shift n q) ≡ told (at + n) f q
+pub told-shift : {A : Type 0} (at n : ℕ) (f : A → ℕ) (q : Answer A) → told at f (shift n q) ≡ told (at + n) f q
 unfolding told shift
 told-shift at n f (got x m) = rw add-assoc
 told-shift at n f (refused c p) = rw add-assoc

@@ -18,6 +18,15 @@ pub enum Fault {
     Date,
     Size,
     Over,
+    Table,
+    Stated,
+    Absent,
+    Text,
+    Rules,
+    Large,
+    Room,
+    Full,
+    Last,
 }
 
 // A value with the place past it, or a fault with its place.
@@ -26,10 +35,12 @@ pub enum Read {
     No(Fault, usize),
 }
 
-// What a call answers: done, with a place or a number as document 01 says; or a fault with its place.
+// What a call answers: done, with a place or a number as document 01 says; a fault with its place; or the same
+// fault in a second deck or in given element data.
 pub enum Outcome {
     Done(usize),
     No(Fault, usize),
+    Given(Fault, usize),
 }
 
 // The number of a fault.
@@ -50,6 +61,15 @@ pub fn number_of(fault: Fault) -> u64
         Fault::Date => 11,
         Fault::Size => 12,
         Fault::Over => 13,
+        Fault::Table => 14,
+        Fault::Stated => 15,
+        Fault::Absent => 16,
+        Fault::Text => 17,
+        Fault::Rules => 18,
+        Fault::Large => 19,
+        Fault::Room => 20,
+        Fault::Full => 21,
+        Fault::Last => 22,
     }
 }
 

@@ -1,20 +1,20 @@
 -- A rule: document 01, "The deck"; source document 001, sections 2.2.10 and 2.3.
-use Prim.Native.Nat.{ℕ, _+_, _*_, _^_, _<_}
+use Prim.Native.Nat.{ℕ, _+_, _*_, _^_, _<_, _≤_}
 use native.Mathlib.Omega.{arith}
 use mathlib.Core.Path.{_≡_, refl}
 use mathlib.Core.Bool.{Bool}
 use mathlib.Core.List.{List, [], _∷_}
-use lib.ListN.{length}
+use lib.ListN.{length, drop}
 use lib.Dec.{eqb}
 use Rattle.format.specs.declared.Fault.the-variants as Fault
 use Rattle.format.specs.declared.Read.{Read}
-use Rattle.format.specs.declared.Read.the-variants.{No}
-use Rattle.format.specs.Format.{Format, pick}
-use Rattle.format.specs.Join.{via, seq, _then_, then-fit}
-use Rattle.format.specs.Number.{number, count, fixed, bytes, value, flag}
+use Rattle.format.specs.declared.Read.the-variants.{Got, No}
+use Rattle.format.specs.Format.{Format, Bytes, bytes-drop, pick}
+use Rattle.format.specs.Join.{pair, judged, via, seq, _then_, then-fit}
+use Rattle.format.specs.Number.{number, within-is, count, fixed, bytes, value, flag}
 use Rattle.format.specs.Each.{each, each-long, counted}
-use Rattle.format.specs.Sized.{sized}
-use Rattle.format.specs.Seen.{seen, itself, none, via-is, seq-stop, number-no}
+use Rattle.format.specs.Sized.{sized, measured}
+use Rattle.format.specs.Seen.{seen, itself, none, told-got, via-is, pair-stop, number-no}
 use Rattle.text.specs.Text.{string}
 use Rattle.kind.specs.declared.Product.{Product}
 use Rattle.element.specs.Element.{Element, element}
@@ -81,12 +81,28 @@ rule p i = via (fields p i)
 
 -- ---- as the code reads it
 
+-- what the code tells of a rule
+abbrev pub elementsIn : Rule → ℕ
+elementsIn r = length (r .elements)
+
 -- the twelve bytes of the class name as two numbers
 pub class-is : (s : List ℕ) (at : ℕ) {out : Read} → out ≡ seen none (fixed 12 (0x656C45656C755243 + 2 ^ 64 * 0x746E656D) Fault.Field) s at → out ≡ seen none (bytes className Fault.Field) s at
 unfolding bytes className value
 class-is s at e = e
 
 -- there is no rule past the end
-pub rule-past : (p : Product) (i : ℕ) (s : List ℕ) (at : ℕ) → length s < at → No Fault.Cut at ≡ seen none (rule p i) s at
-unfolding rule fields
-rule-past p i s at h = via-is none _ _ _ _ s at (seq-stop (number 4) _ s at itself (number-no 4 s at (omega arith)) refl)
+pub rule-past : (p : Product) (i : ℕ) (s : List ℕ) (at : ℕ) → length s < at → No Fault.Cut at ≡ seen elementsIn (rule p i) s at
+unfolding rule fields seq
+rule-past p i s at h = via-is elementsIn _ _ _ _ s at (pair-stop _ (number 4) _ s at itself (number-no 4 s at (omega arith)) refl)
+
+-- a rule that fits has at most 64 elements, and so has one that was read
+rule-fits : (p : Product) (i : ℕ) (r : Rule) → rule p i .Fit r → elementsIn r ≤ 64
+unfolding rule fields fromUnknown2 fromUnknown4 body sized counted count seq via judged pair measured
+rule-fits p i r f = within-is 1 64 (elementsIn r) (f .0 .1 .1 .1 .1 .1 .1 .1 .0 .0 .1 .0 .0 .0 .1) .1
+
+pub rule-small : (p : Product) (i : ℕ) (s : List ℕ) (at : ℕ) {r : Read} {v m : ℕ} → Bytes s → r ≡ seen elementsIn (rule p i) s at → r ≡ Got v m → v ≤ 64
+unfolding seen
+rule-small p i s at bs e h =
+  let o = told-got at elementsIn (rule p i .read (drop at s)) e h in
+  let f = rule p i .forth (drop at s) (o .x) (o .n) (bytes-drop at s bs) (o .is) in
+  rw (o .tells) (rule-fits p i (o .x) (f .fit))

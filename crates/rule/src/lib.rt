@@ -5,11 +5,12 @@ use kind::Product;
 ghost use mathlib.Core.Path.{_≡_};
 ghost use Prim.Native.Nat.{_+_};
 ghost use lib.Dec.{eqb};
+ghost use lib.ListN.{length};
 ghost use Rattle.format.specs.Each.{each};
 ghost use Rattle.format.specs.Sized.{sized};
 ghost use Rattle.element.specs.Element.{named};
 ghost use Rattle.format.specs.Seen.{seen, none};
-ghost use Rattle.rule.specs.Rule.{separator, classHead, head, placed, body, fromUnknown4, fromUnknown2, rule};
+ghost use Rattle.rule.specs.Rule.{separator, classHead, head, placed, body, fromUnknown4, fromUnknown2, rule, elementsIn};
 
 // 8001.
 fn separator_at(s: &[u8], at: usize) -> Read
@@ -78,9 +79,9 @@ fn elements_at(s: &[u8], at: usize, product: Product, n: u64) -> Read
     Read::Got(0, p)
 }
 
-// The number of elements of rule i, its head and its elements.
+// The number of elements of rule i, its head and its elements; the value is their number, and so up to the rule.
 fn body_at(s: &[u8], at: usize, product: Product, i: u64) -> Read
-    ensures { λ r. ⌜ r ≡ seen none (body product i) (now (s .entry)) at ⌝ }
+    ensures { λ r. ⌜ r ≡ seen length (body product i) (now (s .entry)) at ⌝ }
 {
     let c = wire::count16_at(s, at, 1, 64);
     let Read::Got(n, p) = c else {
@@ -90,7 +91,11 @@ fn body_at(s: &[u8], at: usize, product: Product, i: u64) -> Read
     let Read::Got(_, q) = h else {
         return h;
     };
-    elements_at(s, q, product, n)
+    let x = elements_at(s, q, product, n);
+    let Read::Got(_, e) = x else {
+        return x;
+    };
+    Read::Got(n, e)
 }
 
 // Whether `size` bytes lie between two places.
@@ -105,7 +110,7 @@ fn spans(from: usize, to: usize, size: u64) -> bool
 
 // The Data Size of rule i and what it counts.
 fn sized_at(s: &[u8], at: usize, product: Product, i: u64) -> Read
-    ensures { λ r. ⌜ r ≡ seen none (sized Fault.Size (body product i)) (now (s .entry)) at ⌝ }
+    ensures { λ r. ⌜ r ≡ seen length (sized Fault.Size (body product i)) (now (s .entry)) at ⌝ }
 {
     let d = wire::u32_at(s, at);
     let Read::Got(size, p) = d else {
@@ -123,7 +128,7 @@ fn sized_at(s: &[u8], at: usize, product: Product, i: u64) -> Read
 
 // Unknown4, Unknown5, and from Data Size on.
 fn unknown4_at(s: &[u8], at: usize, product: Product, i: u64) -> Read
-    ensures { λ r. ⌜ r ≡ seen none (fromUnknown4 product i) (now (s .entry)) at ⌝ }
+    ensures { λ r. ⌜ r ≡ seen (λ f. length (f .1 .1)) (fromUnknown4 product i) (now (s .entry)) at ⌝ }
 {
     let a = wire::u32_at(s, at);
     let Read::Got(_, p) = a else {
@@ -138,7 +143,7 @@ fn unknown4_at(s: &[u8], at: usize, product: Product, i: u64) -> Read
 
 // Unknown2, Unknown3, and from Unknown4 on.
 fn unknown2_at(s: &[u8], at: usize, product: Product, i: u64) -> Read
-    ensures { λ r. ⌜ r ≡ seen none (fromUnknown2 product i) (now (s .entry)) at ⌝ }
+    ensures { λ r. ⌜ r ≡ seen (λ f. length (f .1 .1 .1 .1)) (fromUnknown2 product i) (now (s .entry)) at ⌝ }
 {
     let a = wire::u32_at(s, at);
     let Read::Got(_, p) = a else {
@@ -153,7 +158,7 @@ fn unknown2_at(s: &[u8], at: usize, product: Product, i: u64) -> Read
 
 // Rule i at the start of a part.
 fn read_rule(rest: &[u8], product: Product, i: u64) -> Read
-    ensures { λ r. ⌜ r ≡ seen none (rule product i) (now (rest .entry)) 0 ⌝ }
+    ensures { λ r. ⌜ r ≡ seen elementsIn (rule product i) (now (rest .entry)) 0 ⌝ }
 {
     let a = wire::u32_at(rest, 0);
     let Read::Got(_, p) = a else {
@@ -172,7 +177,7 @@ fn read_rule(rest: &[u8], product: Product, i: u64) -> Read
 
 // Rule i at a place.
 pub fn rule_at(s: &[u8], at: usize, product: Product, i: u64) -> Read
-    ensures { λ r. ⌜ r ≡ seen none (rule product i) (now (s .entry)) at ⌝ }
+    ensures { λ r. ⌜ r ≡ seen elementsIn (rule product i) (now (s .entry)) at ⌝ }
 {
     if s.len() < at {
         return Read::No(Fault::Cut, at);
@@ -183,21 +188,4 @@ pub fn rule_at(s: &[u8], at: usize, product: Product, i: u64) -> Read
         Read::Got(v, n) => Read::Got(v, at + n),
         Read::No(c, p) => Read::No(c, at + p),
     }
-}
-
-// n rules.
-pub fn rules_at(s: &[u8], at: usize, product: Product, n: u64) -> Read
-    ensures { λ r. ⌜ r ≡ seen none (each (rule product) 0 n) (now (s .entry)) at ⌝ }
-{
-    let mut i = 0;
-    let mut p = at;
-    while i < n {
-        let r = rule_at(s, p, product, i);
-        let Read::Got(_, q) = r else {
-            return r;
-        };
-        p = q;
-        i += 1;
-    }
-    Read::Got(0, p)
 }

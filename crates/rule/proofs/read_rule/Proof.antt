@@ -1,24 +1,25 @@
+use Rattle.format.specs.Join.{seq}
 use Rattle.rule.specs.Rule.{rule, fields}
-use Rattle.format.specs.Seen.{reading}
+use Rattle.format.specs.Seen.{reading, pair-on}
 use borrow.Author.Needs.{needs}
 use Rattle.rule.proofs.read_rule.Statement.{statement}
 use Rattle.rule.proofs.read_rule.Tie as tie
 
 returns : tie.Need-returns
-unfolding rule fields
-returns c = search reading
+unfolding rule fields seq
+returns c = search (reading, pair-on)
 
 returns-2 : tie.Need-returns-2
-unfolding rule fields
-returns-2 c = search reading
+unfolding rule fields seq
+returns-2 c = search (reading, pair-on)
 
 returns-3 : tie.Need-returns-3
-unfolding rule fields
-returns-3 c = search reading depth 6
+unfolding rule fields seq
+returns-3 c = search (reading, pair-on) depth 6
 
 returns-4 : tie.Need-returns-4
-unfolding rule fields
-returns-4 c = search reading depth 6
+unfolding rule fields seq
+returns-4 c = search (reading, pair-on) depth 6
 
 pub read-rule-spec : {M : Type 1} → statement M
 read-rule-spec =

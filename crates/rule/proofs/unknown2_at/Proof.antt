@@ -1,20 +1,21 @@
+use Rattle.format.specs.Join.{seq}
 use Rattle.rule.specs.Rule.{fromUnknown2}
-use Rattle.format.specs.Seen.{reading}
+use Rattle.format.specs.Seen.{reading, pair-on}
 use borrow.Author.Needs.{needs}
 use Rattle.rule.proofs.unknown2_at.Statement.{statement}
 use Rattle.rule.proofs.unknown2_at.Tie as tie
 
 returns : tie.Need-returns
-unfolding fromUnknown2
-returns c = search reading
+unfolding fromUnknown2 seq
+returns c = search (reading, pair-on)
 
 returns-2 : tie.Need-returns-2
-unfolding fromUnknown2
-returns-2 c = search reading
+unfolding fromUnknown2 seq
+returns-2 c = search (reading, pair-on)
 
 returns-3 : tie.Need-returns-3
-unfolding fromUnknown2
-returns-3 c = search reading
+unfolding fromUnknown2 seq
+returns-3 c = search (reading, pair-on)
 
 pub unknown2-at-spec : {M : Type 1} → statement M
 unknown2-at-spec =
