@@ -111,9 +111,9 @@ mark-is s at e = e
 pub header-small : (s : List ℕ) {h : Read} {n m : ℕ} → Bytes s → h ≡ seen itself header s 0 → h ≡ Read.Got n m → n ≤ 256
 unfolding seen header count judged
 header-small s bs e k =
-  let o = told-got 0 itself (header .read s) e k in
-  let f = header .forth s (o .x) (o .n) bs (o .is) .fit in
-  rw (o .tells) (within-is 0 256 (o .x) (then-fit _ _ (o .x) (then-fit _ _ (o .x) f) .1) .1)
+    let o = told-got 0 itself (header .read s) e k in
+    let f = header .forth s (o .x) (o .n) bs (o .is) .fit in
+    rw (o .tells) (within-is 0 256 (o .x) (then-fit _ _ (o .x) (then-fit _ _ (o .x) f) .1) .1)
 
 -- a pass over the deck tells the number of rules and that of their elements
 abbrev pub scanned : Answer (List Rule) → Scan
@@ -150,8 +150,8 @@ module _ (p : Product) (s : List ℕ) where
   scan-no : (g : List Rule → ℕ) {r : Read} {c : Fault} {q : ℕ} → length s ≤ 60000 → r ≡ seen g (deck p) s 0 → r ≡ Read.No c q → Scan.No c q ≡ scanned (readAs p s)
   unfolding seen whole
   scan-no g {c = c} l e k =
-    let o = told-no 0 g (deck p .read s) e k in
-    sym (scan-of l (o .is) ∙ ap (λ (w : ℕ). Scan.No c w) (sym (o .ends ∙ zero-add (o .o))))
+      let o = told-no 0 g (deck p .read s) e k in
+      sym (scan-of l (o .is) ∙ ap (λ (w : ℕ). Scan.No c w) (sym (o .ends ∙ zero-add (o .o))))
 
   deck-got : (n m : ℕ) (rs : List Rule) (j : ℕ) → header .read s ≡ got n m → each (rule p) 0 n .read (drop m s) ≡ got rs j → deck p .read s ≡ got rs (m + j)
   unfolding deck counted via pair pairRead andThen mapped shift
@@ -173,14 +173,14 @@ module _ (p : Product) (s : List ℕ) where
 
       module _ {t q : ℕ} where
         scan-got : (b : Bool) → length s ≤ 60000 → h ≡ seen itself header s 0 → h ≡ Read.Got n m → r ≡ seen (total elementsIn) (each (rule p) 0 n) s m → r ≡ Read.Got t q → eqb q (length s) ≡ b
-          → scanned (readAs p s) ≡ pick b (Scan.Is n t) (Scan.No Fault.Over q)
+            → scanned (readAs p s) ≡ pick b (Scan.Is n t) (Scan.No Fault.Over q)
         unfolding seen whole pick
         scan-got b l e k f o w =
-          let x = told-got 0 itself (header .read s) e k in
-          let y = told-got m (total elementsIn) (each (rule p) 0 n .read (drop m s)) f o in
-          let xh : header .read s ≡ got n m = x .is ∙ ap₂ (λ (u v : ℕ). got u v) (sym (x .tells)) (sym (x .ends ∙ zero-add (x .n))) in
-          scan-of l (deck-got n m (y .x) (y .n) xh (y .is))
-          ∙ go b (y .x) (m + y .n) (ap (λ (u : ℕ). eqb u (length s)) (sym (y .ends)) ∙ w) (row-length (rule p) 0 n (drop m s) (y .x) (y .n) (y .is)) (sym (y .tells)) (sym (y .ends))
+            let x = told-got 0 itself (header .read s) e k in
+            let y = told-got m (total elementsIn) (each (rule p) 0 n .read (drop m s)) f o in
+            let xh : header .read s ≡ got n m = x .is ∙ ap₂ (λ (u v : ℕ). got u v) (sym (x .tells)) (sym (x .ends ∙ zero-add (x .n))) in
+            scan-of l (deck-got n m (y .x) (y .n) xh (y .is))
+            ∙ go b (y .x) (m + y .n) (ap (λ (u : ℕ). eqb u (length s)) (sym (y .ends)) ∙ w) (row-length (rule p) 0 n (drop m s) (y .x) (y .n) (y .is)) (sym (y .tells)) (sym (y .ends))
           where
             go : (b : Bool) (rs : List Rule) (d : ℕ) → eqb d (length s) ≡ b → length rs ≡ n → total elementsIn rs ≡ t → d ≡ q → scanned (pick (eqb d (length s)) (got rs d) (refused Fault.Over d)) ≡ pick b (Scan.Is n t) (Scan.No Fault.Over q)
             go true rs d ew en et eq = rw (ew, en, et)
@@ -215,12 +215,15 @@ place-small edition s bs = by (editionOf edition)
     over : (p : Product) (b : Bool) (rs : List Rule) (m : ℕ) → m ≤ 60000 → length rs ≤ 256 → placeOf (answered (pick b (got rs m) (refused Fault.Over m))) ≤ 60000
     over p true rs m h k = omega arith
     over p false rs m h k = h
+
     read : (p : Product) (a : Answer (List Rule)) → deck p .read s ≡ a → length s ≤ 60000 → endOf a ≤ length s → placeOf (answered (whole (length s) a)) ≤ 60000
     read p (got rs m) e h k = over p (eqb m (length s)) rs m (omega arith) (deck-small p rs (deck p .forth s rs m bs e .fit))
     read p (refused c q) e h k = omega arith
+
     long : (p : Product) (b : Bool) → leb (length s) 60000 ≡ b → placeOf (answered (pick b (whole (length s) (deck p .read s)) (refused Fault.Long 60000))) ≤ 60000
     long p true e = read p (deck p .read s) refl (leb-true (length s) 60000 e) (deck p .inside s)
     long p false e = omega arith
+
     by : (e : Edition) → placeOf (answered (readBy e s)) ≤ 60000
     by (Edition.Of p) = long p (leb (length s) 60000) refl
     by Edition.Unknown = omega arith

@@ -36,16 +36,20 @@ module _ {A : Type 0} (h : List A → ℕ) (a : ℕ → Format A) (s : List ℕ)
   row-stop g l e k = on-stop h (a i .read (drop at s)) rest-of at g e k ∙ sym (next l)
 
   row-go : (g : A → ℕ) {r : Read} {v p : ℕ} → i < n → r ≡ seen g (a i) s at → r ≡ Got v p
-    → (x : A) × ((v ≡ g x) × (seen (λ xs. h (x ∷ xs)) (each a (i + 1) (n - (i + 1))) s p ≡ seen h (each a i (n - i)) s at))
+      → (x : A) × ((v ≡ g x) × (seen (λ xs. h (x ∷ xs)) (each a (i + 1) (n - (i + 1))) s p ≡ seen h (each a i (n - i)) s at))
   unfolding seen each rest-of andThen
   row-go g {v = v} {p = p} l e k =
-    let o = told-got at g (a i .read (drop at s)) e k in
-    let m = o .n in
-    let tail : List ℕ → Answer (List A) = eachRead a (i + 1) (n - (i + 1)) in
-    let d : drop m (drop at s) ≡ drop p s = drop-drop m at s ∙ ap (λ (w : ℕ). drop w s) (sym (o .ends)) in
-    (o .x, (o .tells,
-      sym (next l ∙ ap (λ (q : Answer A). told at h (andThen q rest-of)) (o .is) ∙ told-shift at m h (rest-of (o .x) m) ∙ told-mapped (at + m) h (λ xs. o .x ∷ xs) (tail (drop m (drop at s)))
-      ∙ ap (λ (w : ℕ). told w (λ xs. h (o .x ∷ xs)) (tail (drop m (drop at s)))) (sym (o .ends)) ∙ ap (λ (t : List ℕ). told p (λ xs. h (o .x ∷ xs)) (tail t)) d)))
+      let o = told-got at g (a i .read (drop at s)) e k in
+      let m = o .n in
+      let tail : List ℕ → Answer (List A) = eachRead a (i + 1) (n - (i + 1)) in
+      let d : drop m (drop at s) ≡ drop p s = drop-drop m at s ∙ ap (λ (w : ℕ). drop w s) (sym (o .ends)) in (
+        o .x,
+        (
+          o .tells,
+          sym (next l ∙ ap (λ (q : Answer A). told at h (andThen q rest-of)) (o .is) ∙ told-shift at m h (rest-of (o .x) m) ∙ told-mapped (at + m) h (λ xs. o .x ∷ xs) (tail (drop m (drop at s)))
+              ∙ ap (λ (w : ℕ). told w (λ xs. h (o .x ∷ xs)) (tail (drop m (drop at s)))) (sym (o .ends)) ∙ ap (λ (t : List ℕ). told p (λ xs. h (o .x ∷ xs)) (tail t)) d),
+        ),
+      )
 
 -- nothing is told of the row: the set `running`
 module _ {A : Type 0} (a : ℕ → Format A) (s : List ℕ) (n i at : ℕ) {whole : Read} where
@@ -56,7 +60,7 @@ module _ {A : Type 0} (a : ℕ → Format A) (s : List ℕ) (n i at : ℕ) {whol
   run-stop g w l e k = row-stop none a s n i at g l e k ∙ w
 
   pub run-go : (g : A → ℕ) {r : Read} {v p : ℕ} → seen none (each a i (n - i)) s at ≡ whole → i < n → r ≡ seen g (a i) s at → r ≡ Got v p
-    → seen none (each a (i + 1) (n - (i + 1))) s p ≡ whole
+      → seen none (each a (i + 1) (n - (i + 1))) s p ≡ whole
   run-go g w l e k = row-go none a s n i at g l e k .1 .1 ∙ w
 
 pub run-start : {A : Type 0} (a : ℕ → Format A) (s : List ℕ) (n at : ℕ) → seen none (each a 0 (n - 0)) s at ≡ seen none (each a 0 n) s at
@@ -96,12 +100,12 @@ module _ {A : Type 0} (g : A → ℕ) (a : ℕ → Format A) (s : List ℕ) (n i
   sum-stop w l e k = k ∙ ap (added t) (sym k ∙ row-stop (total g) a s n i at g l e k) ∙ w
 
   pub sum-go : {r : Read} {v p : ℕ} → added t (seen (total g) (each a i (n - i)) s at) ≡ whole → i < n → r ≡ seen g (a i) s at → r ≡ Got v p
-    → added (t + v) (seen (total g) (each a (i + 1) (n - (i + 1))) s p) ≡ whole
+      → added (t + v) (seen (total g) (each a (i + 1) (n - (i + 1))) s p) ≡ whole
   unfolding seen total
   sum-go {v = v} {p = p} w l e k =
-    let o = row-go (total g) a s n i at g l e k in
-    let rest = each a (i + 1) (n - (i + 1)) .read (drop p s) in
-    sym (added-twice t v (told p (total g) rest)) ∙ ap (added t) (sym (told-added p v (total g) rest) ∙ ap (λ (u : ℕ). told p (λ xs. u + total g xs) rest) (o .1 .0) ∙ o .1 .1) ∙ w
+      let o = row-go (total g) a s n i at g l e k in
+      let rest = each a (i + 1) (n - (i + 1)) .read (drop p s) in
+      sym (added-twice t v (told p (total g) rest)) ∙ ap (added t) (sym (told-added p v (total g) rest) ∙ ap (λ (u : ℕ). told p (λ xs. u + total g xs) rest) (o .1 .0) ∙ o .1 .1) ∙ w
 
 pub sum-start : {A : Type 0} (g : A → ℕ) (a : ℕ → Format A) (s : List ℕ) (n at : ℕ) → added 0 (seen (total g) (each a 0 (n - 0)) s at) ≡ seen (total g) (each a 0 n) s at
 sum-start g a s n at = let z : n - 0 ≡ n = omega arith in added-none (seen (total g) (each a 0 (n - 0)) s at) ∙ ap (λ (k : ℕ). seen (total g) (each a 0 k) s at) z

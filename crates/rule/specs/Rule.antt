@@ -103,6 +103,6 @@ rule-fits p i r f = within-is 1 64 (elementsIn r) (f .0 .1 .1 .1 .1 .1 .1 .1 .0 
 pub rule-small : (p : Product) (i : ℕ) (s : List ℕ) (at : ℕ) {r : Read} {v m : ℕ} → Bytes s → r ≡ seen elementsIn (rule p i) s at → r ≡ Got v m → v ≤ 64
 unfolding seen
 rule-small p i s at bs e h =
-  let o = told-got at elementsIn (rule p i .read (drop at s)) e h in
-  let f = rule p i .forth (drop at s) (o .x) (o .n) (bytes-drop at s bs) (o .is) in
-  rw (o .tells) (rule-fits p i (o .x) (f .fit))
+    let o = told-got at elementsIn (rule p i .read (drop at s)) e h in
+    let f = rule p i .forth (drop at s) (o .x) (o .n) (bytes-drop at s bs) (o .is) in
+    rw (o .tells) (rule-fits p i (o .x) (f .fit))
