@@ -4,7 +4,6 @@ use mathlib.Core.Path.{_≡_, refl}
 use mathlib.Core.Bool.{true}
 use mathlib.Core.List.{List, [], _∷_, _++_, map}
 use lib.ListN.{length, replicate}
-use Rattle.format.specs.declared.Fault.{Fault}
 use Rattle.format.specs.Fault.{numberOf}
 use Rattle.format.specs.Format.{Answer, got, refused, shift, mapped, andThen, pick, whole}
 use Rattle.format.specs.Join.{pair, pairRead, pairWrite, seq, _then_, judged, judgeOf, judge, via, home, atStart, nothing}

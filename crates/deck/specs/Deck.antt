@@ -4,7 +4,7 @@ use native.Mathlib.Nat.{zero-add}
 use native.Mathlib.Omega.{arith}
 use mathlib.Core.Path.{_≡_, refl, sym, ap, ap₂, _∙_}
 use mathlib.Core.Bool.{Bool, true, false}
-use mathlib.Core.List.{List, [], _∷_, _++_, append-nil}
+use mathlib.Core.List.{List, [], _∷_, append-nil}
 use lib.ListN.{length, drop}
 use lib.Dec.{leb, eqb}
 use lib.Seq.{drop-length}
@@ -20,7 +20,7 @@ use Rattle.format.specs.Number.{count, within-is, fixed, bytes, value}
 use Rattle.format.specs.Each.{each, each-long, counted}
 use Rattle.format.specs.declared.Read.{Read}
 use Rattle.format.specs.declared.Read.the-variants as Read
-use Rattle.format.specs.Seen.{told, seen, itself, none, told-got, told-no, pair-stop, pair-go}
+use Rattle.format.specs.Seen.{seen, itself, none, told-got, told-no, pair-stop, pair-go}
 use Rattle.format.specs.Rows.{total, counted-is, row-length}
 use Rattle.kind.specs.declared.Product.{Product}
 use Rattle.kind.specs.declared.Edition.{Edition}

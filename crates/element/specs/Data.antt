@@ -1,6 +1,6 @@
 -- The data of an element, by its kind: document 01, "The deck"; source document 001, sections 2.4.1, 2.4.2, 2.4.4, 2.4.10 and 2.4.11.
 use Prim.Native.Nat.{ℕ}
-use mathlib.Core.Path.{_≡_, refl}
+use mathlib.Core.Path.{refl}
 use mathlib.Core.Bool.{Bool, false}
 use mathlib.Core.List.{List, []}
 use Rattle.format.specs.declared.Fault.the-variants as Fault

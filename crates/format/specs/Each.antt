@@ -1,11 +1,11 @@
 -- Values in a row, each by the format of its place in the row; and a number of them before them.
-use Prim.Native.Nat.{ℕ, zero, suc, _+_, _-_, _*_, _≤_, _<_}
+use Prim.Native.Nat.{ℕ, zero, suc, _+_, _-_, _≤_}
 use native.Mathlib.Omega.{arith}
-use mathlib.Core.Path.{_≡_, refl, sym, ap, _∙_}
+use mathlib.Core.Path.{_≡_, refl, ap}
 use mathlib.Core.List.{List, [], _∷_, _++_, append-assoc}
-use lib.ListN.{length, take, drop, length-append}
+use lib.ListN.{length, drop, length-append}
 use lib.Seq.{drop-append-seam}
-use Rattle.format.specs.Format.{Answer, got, refused, shift, mapped, andThen, endOf, Bytes, bytes-drop, Found, Format, went, mapped-got, end-mapped, end-then}
+use Rattle.format.specs.Format.{Answer, got, shift, mapped, andThen, endOf, Bytes, bytes-drop, Found, Format, went, mapped-got, end-mapped, end-then}
 use Rattle.format.specs.Join.{joined, pair, via}
 
 -- k values from place i on: the one at place i by the format a i

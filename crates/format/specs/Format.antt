@@ -1,13 +1,13 @@
 -- A format: how a value is read from the front of a list of bytes, how it is written, which values fit, and the laws that tie them.
 use Prim.Native.Nat.{ℕ, zero, suc, _+_, _-_, _≤_, _<_}
 use native.Mathlib.Omega.{arith}
-use mathlib.Core.Path.{_≡_, refl, sym, ap, _∙_}
+use mathlib.Core.Path.{_≡_, refl, sym, _∙_}
 use mathlib.Core.Bool.{Bool, true, false}
 use mathlib.Core.List.{List, [], _∷_, _++_}
 use lib.Dec.{eqb}
 use mir.Syntax.{w8}
 use mir.Val.{Fits}
-use lib.ListN.{length, getD, take, drop, length-append, length-drop}
+use lib.ListN.{length, getD, take, drop, length-drop}
 use Rattle.format.specs.declared.Fault.{Fault}
 use Rattle.format.specs.declared.Fault.the-variants.{Over}
 
@@ -70,6 +70,10 @@ whole n (got x m) = pick (eqb m n) (got x m) (refused Over m)
 whole n (refused c q) = refused c q
 
 -- ---- their laws
+
+-- a promise that is an equation settles the outcome: two that it allows coincide
+pub one : {A : Type 0} {x r q : A} → r ≡ x → q ≡ x → r ≡ q
+one e f = e ∙ sym f
 
 -- no value was refused
 pub apart : {A : Type 0} {B : Type 0} {x : A} {n : ℕ} {c : Fault} {p : ℕ} → got x n ≡ refused c p → B

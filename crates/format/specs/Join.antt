@@ -1,10 +1,10 @@
 -- Formats made of formats: one after the other, judged, in another guise, refused at the start.
-use Prim.Native.Nat.{ℕ, zero, suc, _+_, _-_, _≤_, _<_}
+use Prim.Native.Nat.{ℕ, _+_, _-_, _≤_}
 use native.Mathlib.Omega.{arith}
 use mathlib.Core.Path.{_≡_, refl, sym, ap, _∙_}
 use mathlib.Core.Bool.{Bool, true, false}
-use mathlib.Core.List.{List, [], _∷_, _++_, append-assoc}
-use lib.ListN.{length, take, drop, length-append, length-drop}
+use mathlib.Core.List.{List, [], _++_, append-assoc}
+use lib.ListN.{length, drop, length-append}
 use lib.Seq.{drop-append-seam, drop-drop}
 use Rattle.format.specs.declared.Fault.{Fault}
 use Rattle.format.specs.Format.{Answer, got, refused, shift, mapped, andThen, endOf, Bytes, bytes-drop, Found, Format, apart, went, mapped-got, end-mapped, end-then}

@@ -1,22 +1,21 @@
 -- What the code says of a format at a place of a slice, and the laws by which its readers go: `reading` for one after the other, `running` for a row.
-use Prim.Native.Nat.{ℕ, zero, suc, _+_, _-_, _*_, _/_, _%_, _^_, _≤_, _<_}
+use Prim.Native.Nat.{ℕ, _+_, _-_, _*_, _/_, _%_, _^_, _≤_, _<_}
 use native.Mathlib.Nat.{add-assoc, add-zero, add-mul-mod-self-left, mod-eq-of-lt, mul-div-right}
 use native.Mathlib.Omega.{arith}
 use mathlib.Core.Path.{_≡_, refl, sym, ap, _∙_}
-use mathlib.Core.Bool.{Bool, true, false, _&&_}
-use mathlib.Core.List.{List, [], _∷_}
+use mathlib.Core.Bool.{Bool, true, false}
+use mathlib.Core.List.{List}
 use lib.ListN.{length, take, drop, length-drop}
-use lib.Seq.{drop-drop, take-all}
+use lib.Seq.{drop-drop}
 use lib.Dec.{leb, eqb}
 use borrow.Author.Tests.{lt-leb, le-leb, eq-eqb, ne-eqb}
 use Rattle.format.specs.declared.Fault.{Fault}
 use Rattle.format.specs.declared.Fault.the-variants.{Cut, Count, Field}
 use Rattle.format.specs.declared.Read.{Read}
 use Rattle.format.specs.declared.Read.the-variants.{Got, No}
-use Rattle.format.specs.Format.{Answer, got, refused, shift, mapped, andThen, endOf, pick, Bytes, Found, Format}
+use Rattle.format.specs.Format.{Answer, got, refused, shift, mapped, andThen, pick, Format}
 use Rattle.format.specs.Join.{pair, pairRead, seq, _then_, judged, judgeOf, judge, via, home, atStart, nothing}
 use Rattle.format.specs.Number.{number, numberRead, count, fixed, within, flag, bit, bit-eqb, value, value-join}
-use Rattle.format.specs.Each.{each, eachRead, counted, listed}
 
 -- an answer as the code gives it: what f tells of the value, and the place past it
 unfoldable pub told : {A : Type 0} → ℕ → (A → ℕ) → Answer A → Read

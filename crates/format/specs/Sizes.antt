@@ -12,7 +12,7 @@ use borrow.Author.Tests.{eqb-true, eqb-false, eq-eqb, ne-eqb}
 use Rattle.format.specs.declared.Fault.{Fault}
 use Rattle.format.specs.declared.Read.{Read}
 use Rattle.format.specs.declared.Read.the-variants.{Got, No}
-use Rattle.format.specs.Format.{Answer, got, refused, shift, mapped, andThen, pick, Format}
+use Rattle.format.specs.Format.{got, shift, mapped, andThen, pick, Format}
 use Rattle.format.specs.Join.{pair, pairRead, judged, judgeOf, judge, via}
 use Rattle.format.specs.Number.{number}
 use Rattle.format.specs.Sized.{sized, measured, weighed}

@@ -1,10 +1,10 @@
 -- The kinds of elements: document 01, "The deck", the table of identifiers and the two editions.
 use Prim.Native.Nat.{ℕ, zero, suc, _+_, _*_, _/_, _%_, _≤_, _<_}
-use native.Mathlib.Nat.{add-zero, zero-add}
+use native.Mathlib.Nat.{add-zero}
 use native.Mathlib.Omega.{arith}
-use mathlib.Core.Path.{_≡_, refl, sym, ap, _∙_}
+use mathlib.Core.Path.{_≡_, refl, _∙_}
 use mathlib.Core.Bool.{Bool, true, false, _||_}
-use mathlib.Core.List.{List, [], _∷_, map}
+use mathlib.Core.List.{List, [], _∷_, _++_, map}
 use lib.ListN.{length, getD}
 use lib.Dec.{eqb}
 use borrow.Author.Tests.{ne-eqb}
@@ -80,6 +80,19 @@ rowBy Edition.Unknown id = No Fault.Edition 0
 
 unfoldable pub kindOf : ℕ → ℕ → Row
 kindOf edition id = rowBy (editionOf edition) id
+
+-- the identifiers of a product: 17 in Desk, 35 in Studio
+unfoldable pub identifiers : Product → List (Kind × List ℕ) → List ℕ
+identifiers p [] = []
+identifiers p ((k, ids) ∷ rows) = pick (inProduct p k) ids [] ++ identifiers p rows
+
+pub seventeen : length (identifiers Desk kinds) ≡ 17
+unfolding identifiers pick
+seventeen = refl
+
+pub thirty-five : length (identifiers Studio kinds) ≡ 35
+unfolding identifiers pick
+thirty-five = refl
 
 -- ---- what a row tells
 

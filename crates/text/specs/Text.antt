@@ -1,15 +1,15 @@
 -- Strings and words: document 01, "The deck"; source document 001, sections 2.2.2 and 2.2.3.
 use Prim.Native.Nat.{ℕ, _+_, _-_, _*_, _/_, _<_, _≤_}
 use native.Mathlib.Omega.{arith}
-use mathlib.Core.Path.{_≡_, refl, sym, ap, _∙_}
+use mathlib.Core.Path.{_≡_, refl, ap, _∙_}
 use mathlib.Core.List.{List}
-use lib.ListN.{length, drop, length-drop}
+use lib.ListN.{length}
 use lib.Dec.{eqb}
 use Rattle.format.specs.declared.Fault.{Fault}
 use Rattle.format.specs.declared.Fault.the-variants.{Cut, Form, Field}
 use Rattle.format.specs.declared.Read.{Read}
 use Rattle.format.specs.declared.Read.the-variants.{Got, No}
-use Rattle.format.specs.Format.{Answer, got, refused, Format, pick}
+use Rattle.format.specs.Format.{Format, pick}
 use Rattle.format.specs.Join.{pair, via, atStart, nothing, _then_}
 use Rattle.format.specs.Number.{number, fixed}
 use Rattle.format.specs.Each.{each, listed}

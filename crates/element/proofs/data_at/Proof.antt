@@ -1,4 +1,3 @@
-use mathlib.Core.Path.{refl}
 use Rattle.element.specs.Element.{data-is, simple-is}
 use borrow.Author.Needs.{needs}
 use Rattle.element.proofs.data_at.Statement.{statement}

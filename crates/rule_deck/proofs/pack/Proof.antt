@@ -1,5 +1,5 @@
 use native.Mathlib.Omega.{arith}
-use mathlib.Core.Path.{ap, sym, _∙_}
+use mathlib.Core.Path.{ap}
 use Rattle.format.specs.Fault.{placeOf, packed, number-small}
 use borrow.Author.Needs.{needs}
 use Rattle.rule_deck.proofs.pack.Statement.{statement}
