@@ -6,7 +6,6 @@ use kind::Edition;
 use kind::Product;
 ghost use mathlib.Core.Path.{_≡_};
 ghost use Prim.Native.Nat.{_≤_};
-ghost use lib.ListN.{length};
 ghost use Rattle.format.specs.Each.{each};
 ghost use Rattle.format.specs.Rows.{total};
 ghost use Rattle.format.specs.Seen.{seen, itself};

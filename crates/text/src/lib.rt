@@ -3,7 +3,7 @@ use format::Fault;
 use format::Read;
 ghost use mathlib.Core.Path.{_≡_};
 ghost use lib.ListN.{length};
-ghost use Rattle.format.specs.Seen.{seen, itself, none};
+ghost use Rattle.format.specs.Seen.{seen, itself};
 ghost use Rattle.text.specs.Text.{stringLength, string, word, refusedAt};
 
 // The number of units of a String.
