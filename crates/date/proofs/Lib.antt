@@ -1,2 +1,3 @@
 pub mod Range
 pub mod Shift
+pub mod Floats

@@ -4,6 +4,7 @@ use format::Fault;
 use format::Read;
 ghost use mathlib.Core.Bool.{true};
 ghost use mathlib.Core.Path.{_≡_};
+ghost use lib.Ieee.{binary64, toBits};
 ghost use Prim.Native.Nat.{_+_, _-_, _%_, _^_, _<_};
 ghost use Rattle.format.specs.Seen.{seen, itself};
 ghost use Rattle.date.specs.Double.{exponent, digits, accepted};
@@ -30,6 +31,13 @@ pub fn is_date(bits: u64) -> bool
         }
     }
     false
+}
+
+// Whether a float is a date; a not-a-number passes no comparison.
+pub fn in_range(days: f64) -> bool
+    ensures { λ r. ⌜ r ≡ accepted (toBits binary64 days) ⌝ }
+{
+    -657435.0 < days && days < 2958466.0
 }
 
 // The date at a place; its value is its bits.

@@ -11,6 +11,7 @@ use borrow.Author.Tests.{ne-eqb}
 use borrow.Author.Needs.{needs}
 use Rattle.format.specs.declared.Fault.{Fault}
 use Rattle.format.specs.declared.Fault.the-variants as Fault
+use Rattle.format.specs.Fault.{numberOf}
 use Rattle.format.specs.Format.{pick}
 use Rattle.kind.specs.declared.Product.{Product}
 use Rattle.kind.specs.declared.Product.the-variants.{Desk, Studio}
@@ -80,6 +81,15 @@ rowBy Edition.Unknown id = No Fault.Edition 0
 
 unfoldable pub kindOf : ℕ → ℕ → Row
 kindOf edition id = rowBy (editionOf edition) id
+
+-- the number and the place of a row's answer; where there is a row, 0 and 0
+abbrev pub rowCode : Row → ℕ
+rowCode (Is k) = 0
+rowCode (No c q) = numberOf c
+
+abbrev pub rowPlace : Row → ℕ
+rowPlace (Is k) = 0
+rowPlace (No c q) = q
 
 -- the identifiers of a product: 17 in Desk, 35 in Studio
 unfoldable pub identifiers : Product → List (Kind × List ℕ) → List ℕ

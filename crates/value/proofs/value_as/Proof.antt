@@ -1,0 +1,26 @@
+use native.Mathlib.Omega.{arith}
+use Rattle.value.specs.Places.{value-no, value-over, value-is}
+use borrow.Author.Needs.{needs}
+use Rattle.value.proofs.value_as.Statement.{statement}
+use Rattle.value.proofs.value_as.Tie as tie
+
+returns : tie.Need-returns
+returns c = value-over _ _ _ (c .before .before .before .before .before .shared-slice-known .given) (c .before .before .before .before .data-at .ensures) (c .before .before .r .given .1) (omega arith)
+
+returns-2 : tie.Need-returns-2
+returns-2 c = search (needs, value-is)
+
+returns-3 : tie.Need-returns-3
+returns-3 c = search (needs, value-no)
+
+pub value-as-spec : {M : Type 1} → statement M
+value-as-spec =
+    tie.close
+    (tie.spec
+    (λ c κs. search needs)
+    (λ c. search needs)
+    returns
+    (λ c κs. search needs)
+    (λ c. search needs)
+    returns-2
+    returns-3)

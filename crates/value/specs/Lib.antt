@@ -1,0 +1,5 @@
+pub mod Value
+pub mod Holds
+pub mod Places
+pub mod Put
+pub mod RoundTrip
