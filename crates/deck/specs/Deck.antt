@@ -4,8 +4,8 @@ use native.Mathlib.Nat.{zero-add}
 use native.Mathlib.Omega.{arith}
 use mathlib.Core.Path.{_≡_, refl, sym, ap, ap₂, _∙_}
 use mathlib.Core.Bool.{Bool, true, false}
-use mathlib.Core.List.{List, [], _∷_, append-nil}
-use lib.ListN.{length, drop}
+use mathlib.Core.List.{List, [], _∷_, _++_, append-nil}
+use lib.ListN.{length, drop, length-append}
 use lib.Dec.{leb, eqb}
 use lib.Seq.{drop-length}
 use borrow.Author.Tests.{le-leb, lt-leb, leb-true, eq-eqb, ne-eqb, eqb-true}
@@ -15,9 +15,10 @@ use Rattle.format.specs.declared.Outcome.{Outcome}
 use Rattle.format.specs.declared.Outcome.the-variants.{Done, No}
 use Rattle.format.specs.Fault.{placeOf}
 use Rattle.format.specs.Format.{Answer, got, refused, shift, mapped, andThen, endOf, Format, Bytes, pick, whole, apart}
-use Rattle.format.specs.Join.{pair, pairRead, judged, via, _then_, then-fit}
-use Rattle.format.specs.Number.{count, within-is, fixed, bytes, value}
-use Rattle.format.specs.Each.{each, each-long, counted}
+use Rattle.format.specs.Join.{pair, pairRead, pairWrite, seq, judged, via, _then_, then-fit}
+use Rattle.format.specs.Number.{number, count, within-is, fixed, bytes, value, spelt, length-spelt}
+use Rattle.format.specs.Each.{each, eachWrite, each-long, counted}
+use Rattle.format.specs.Written.{behind, Row}
 use Rattle.format.specs.declared.Read.{Read}
 use Rattle.format.specs.declared.Read.the-variants as Read
 use Rattle.format.specs.Seen.{seen, itself, none, told-got, told-no, pair-stop, pair-go}
@@ -227,3 +228,15 @@ place-small edition s bs = by (editionOf edition)
     by : (e : Edition) → placeOf (answered (readBy e s)) ≤ 60000
     by (Edition.Of p) = long p (leb (length s) 60000) refl
     by Edition.Unknown = omega arith
+
+-- ---- a sound deck is its header, 7 bytes, and the rules behind it
+header-length : (n : ℕ) → length (header .write n) ≡ 7
+unfolding header bytes mark fixed count via judged _then_ seq pair pairWrite number
+header-length n = omega (arith, length-append (spelt 3 (value mark)) (spelt 2 1 ++ spelt 2 n), length-append (spelt 2 1) (spelt 2 n), length-spelt 3 (value mark), length-spelt 2 1, length-spelt 2 n)
+
+pub deck-row : (p : Product) (s : List ℕ) (rs : List Rule) → deck p .Fit rs → s ≡ deck p .write rs → Row (rule p) s 0 7 rs []
+unfolding deck counted via pair pairWrite each
+deck-row p s rs f e =
+    let h = behind s 0 (header .write (length rs)) (eachWrite (rule p) 0 rs) e in
+    let z : 0 + length (header .write (length rs)) ≡ 7 = omega (arith, header-length (length rs)) in
+    record { fit = f .0 .1 .1; is = rw z at h ∙ sym (append-nil (eachWrite (rule p) 0 rs)) }

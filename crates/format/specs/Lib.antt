@@ -8,3 +8,4 @@ pub mod Seen
 pub mod Rows
 pub mod Parts
 pub mod Sizes
+pub mod Written

@@ -2,17 +2,17 @@
 use Prim.Native.Nat.{ℕ, _+_, _-_, _*_, _/_, _<_, _≤_}
 use native.Mathlib.Omega.{arith}
 use mathlib.Core.Path.{_≡_, refl, ap, _∙_}
-use mathlib.Core.List.{List}
-use lib.ListN.{length}
+use mathlib.Core.List.{List, [], _∷_}
+use lib.ListN.{length, length-append}
 use lib.Dec.{eqb}
 use Rattle.format.specs.declared.Fault.{Fault}
 use Rattle.format.specs.declared.Fault.the-variants.{Cut, Form, Field}
 use Rattle.format.specs.declared.Read.{Read}
 use Rattle.format.specs.declared.Read.the-variants.{Got, No}
 use Rattle.format.specs.Format.{Format, pick}
-use Rattle.format.specs.Join.{pair, via, atStart, nothing, _then_}
-use Rattle.format.specs.Number.{number, fixed}
-use Rattle.format.specs.Each.{each, listed}
+use Rattle.format.specs.Join.{pair, pairWrite, via, atStart, nothing, _then_}
+use Rattle.format.specs.Number.{number, fixed, spelt, length-spelt}
+use Rattle.format.specs.Each.{each, eachWrite, counted, listed}
 use Rattle.format.specs.Seen.{seen, itself, none, told-is, via-is, pair-stop, pair-go, pick-yes, yes-eq, start-got, start-no}
 use Rattle.format.specs.Rows.{listed-is, row-is, row-no}
 
@@ -62,3 +62,13 @@ module _ (s : List ℕ) (at : ℕ) {l : Read} where
   pub string-cut : {n p w : ℕ} → l ≡ seen itself stringLength s at → l ≡ Got n p → w ≡ length s - p → w / 2 < n → No Cut at ≡ seen length string s at
   unfolding string
   string-cut {n} {p} e h f r = let c = row-no 2 s p n (omega arith) in start-no length _ s at {p = c .0} (units (No Cut (c .0)) e h (c .1)) refl
+
+-- ---- how many bytes a String is written in: its length's, and two for each unit
+units-length : (i : ℕ) (us : List ℕ) → length (eachWrite (λ j. number 2) i us) ≡ 2 * length us
+unfolding eachWrite number
+units-length i [] = refl
+units-length i (u ∷ us) = omega (arith, length-append (spelt 2 u) (eachWrite (λ j. number 2) (i + 1) us), length-spelt 2 u, units-length (i + 1) us)
+
+pub string-length : (us : List ℕ) → length (string .write us) ≡ length (stringLength .write (length us)) + 2 * length us
+unfolding string atStart listed counted via pair pairWrite each
+string-length us = omega (arith, length-append (stringLength .write (length us)) (eachWrite (λ j. number 2) 0 us), units-length 0 us)

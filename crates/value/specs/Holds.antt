@@ -10,6 +10,7 @@ use Rattle.format.specs.declared.Read.{Read}
 use Rattle.format.specs.declared.Read.the-variants.{Got}
 use Rattle.format.specs.Format.{got, Bytes, bytes-drop, Format}
 use Rattle.format.specs.Join.{pair, pairWrite, seq, _then_, judged, via}
+use Rattle.format.specs.Written.{seen-back}
 use Rattle.format.specs.Seen.{seen, told, told-got, itself}
 
 pub record Holds {A : Type 0} (a : Format A) (s : List ℕ) (at : ℕ) (x : A) : Type 0 where
@@ -25,8 +26,7 @@ holds-read a s at {x} {n} bs e =
 
 -- and what stands there is read
 pub holds-seen : {A : Type 0} (g : A → ℕ) (a : Format A) (s : List ℕ) (at : ℕ) {x : A} → Holds a s at x → seen g a s at ≡ Got (g x) (at + length (a .write x))
-unfolding seen told
-holds-seen g a s at {x} h = rw (h .is, a .back x (h .rest) (h .fit))
+holds-seen g a s at {x} h = seen-back g a x s at (h .rest) (h .fit) (h .is)
 
 -- of two one after the other, each stands at its place
 module _ {A B : Type 0} (a : Format A) (b : A → Format B) (s : List ℕ) (at : ℕ) {p : A × B} where
