@@ -205,7 +205,7 @@ unfolding readDeck readBy
 scan-none edition s f h = rw (← f, h)
 
 -- ---- no place that a read answers is above 60,000
-deck-small : (p : Product) (rs : List Rule) → deck p .Fit rs → length rs ≤ 256
+pub deck-small : (p : Product) (rs : List Rule) → deck p .Fit rs → length rs ≤ 256
 unfolding deck counted via pair header count judged
 deck-small p rs f = within-is 0 256 (length rs) (then-fit _ _ (length rs) (then-fit _ _ (length rs) (f .0 .0)) .1) .1
 

@@ -9,3 +9,4 @@ pub mod Rows
 pub mod Parts
 pub mod Sizes
 pub mod Written
+pub mod Back

@@ -40,8 +40,3 @@ module _ {A : Type 0} (g : A → ℕ) (a : Format A) (s : List ℕ) (at : ℕ) {
   pub part-stops : {c : Fault} {p : ℕ} → at ≤ length s → r ≡ seen g a (part s at) 0 → r ≡ No c p → at + p ≤ length s
   unfolding endOf
   part-stops l e h = let i = told-no 0 g (a .read (drop at s)) (whole e) h in omega (arith, i .ends, rw (i .is) at (a .inside (drop at s)), length-drop at s)
-
--- a reading that starts within the slice ends within it
-pub seen-ends : {A : Type 0} (g : A → ℕ) (a : Format A) (s : List ℕ) (at : ℕ) {r : Read} {v m : ℕ} → at ≤ length s → r ≡ seen g a s at → r ≡ Got v m → m ≤ length s
-unfolding seen endOf
-seen-ends g a s at l e h = let i = told-got at g (a .read (drop at s)) e h in omega (arith, i .ends, rw (i .is) at (a .inside (drop at s)), length-drop at s)

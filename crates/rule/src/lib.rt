@@ -35,7 +35,7 @@ fn class_at(s: &[u8], at: usize) -> Read
 }
 
 // The head of rule i.
-fn head_at(s: &[u8], at: usize, i: u64) -> Read
+pub fn head_at(s: &[u8], at: usize, i: u64) -> Read
     ensures { λ r. ⌜ r ≡ seen none (head i) (now (s .entry)) at ⌝ }
 {
     if i != 0 {
@@ -49,7 +49,7 @@ fn head_at(s: &[u8], at: usize, i: u64) -> Read
 }
 
 // The element at place j of its rule, with 8001 before it where it is not the first; its value is its identifier.
-fn placed_at(s: &[u8], at: usize, product: Product, j: u64) -> Read
+pub fn placed_at(s: &[u8], at: usize, product: Product, j: u64) -> Read
     ensures { λ r. ⌜ r ≡ seen named (placed product j) (now (s .entry)) at ⌝ }
 {
     if j == 0 {

@@ -7,7 +7,7 @@ ghost use Rattle.format.specs.Seen.{seen, itself};
 ghost use Rattle.text.specs.Text.{stringLength, string, word, refusedAt};
 
 // The number of units of a String.
-fn length_at(s: &[u8], at: usize) -> Read
+pub fn length_at(s: &[u8], at: usize) -> Read
     ensures { λ r. ⌜ r ≡ seen itself stringLength (now (s .entry)) at ⌝ }
 {
     let b = wire::u8_at(s, at);

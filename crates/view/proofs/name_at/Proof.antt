@@ -1,6 +1,6 @@
 use native.Mathlib.Omega.{arith}
 use Rattle.view.specs.View.{view-past, view-none, view-odd, view-is}
-use Rattle.format.specs.Parts.{seen-ends}
+use Rattle.format.specs.Back.{seen-ends}
 use borrow.Author.Needs.{needs}
 use Rattle.view.proofs.name_at.Statement.{statement}
 use Rattle.view.proofs.name_at.Tie as tie
@@ -15,7 +15,7 @@ returns-3 : tie.Need-returns-3
 returns-3 c = (search (needs, view-odd), tt)
 
 returns-4 : tie.Need-returns-4
-returns-4 c = (search (needs, view-is), omega (arith, seen-ends _ _ (c .before .before .before .before .before .before .before .before .before .args .s .now) _ (omega arith) (c .before .before .before .before .string-at .ensures) (c .before .before .t .given .1)))
+returns-4 c = (search (needs, view-is), omega (arith, seen-ends _ _ (c .before .before .before .before .before .before .before .before .before .args .s .now) _ (c .before .before .before .before .string-at .ensures) (c .before .before .t .given .1)))
 
 pub name-at-spec : {M : Type 1} → statement M
 name-at-spec =

@@ -1,0 +1,95 @@
+-- Values that are known to stand at a place: what the code reads there, and a row of them.
+use Prim.Native.Nat.{ℕ, _+_, _-_, _≤_, _<_}
+use native.Mathlib.Nat.{add-zero}
+use native.Mathlib.Omega.{arith}
+use mathlib.Core.Path.{_≡_, refl, sym, ap, _∙_}
+use mathlib.Core.List.{List, [], _∷_, _++_, append-assoc}
+use lib.ListN.{length, drop, length-append, length-drop}
+use Rattle.format.specs.declared.Fault.{Fault}
+use Rattle.format.specs.declared.Read.{Read}
+use Rattle.format.specs.declared.Read.the-variants.{Got, No}
+use Rattle.format.specs.Format.{got, endOf, Bytes, bytes-drop, Format}
+use Rattle.format.specs.Each.{eachWrite, AllFit}
+use Rattle.format.specs.Seen.{seen, told-got, unlike}
+use Rattle.format.specs.Written.{behind, seen-back}
+
+-- a value that fits stands at a place, with u behind it
+pub record Stands {A : Type 0} (a : Format A) (s : List ℕ) (at : ℕ) (x : A) (u : List ℕ) : Type 0 where
+  pub fit : a .Fit x
+  pub is : drop at s ≡ a .write x ++ u
+
+module _ {A : Type 0} (g : A → ℕ) (a : Format A) (s : List ℕ) (at : ℕ) where
+  -- it is seen
+  stands-seen : {x : A} {u : List ℕ} → Stands a s at x u → seen g a s at ≡ Got (g x) (at + length (a .write x))
+  stands-seen {x} {u} b = seen-back g a x s at u (b .fit) (b .is)
+
+  pub back-got : {x : A} {u : List ℕ} {r : Read} {v m : ℕ} → Stands a s at x u → r ≡ seen g a s at → r ≡ Got v m → (v ≡ g x) × (m ≡ at + length (a .write x))
+  back-got {x} {v = v} {m = m} b h k = let o : Got v m ≡ Got (g x) (at + length (a .write x)) = sym k ∙ h ∙ stands-seen b in ((cc), (cc))
+
+  pub back-no : {B : Type 0} {x : A} {u : List ℕ} {r : Read} {c : Fault} {q : ℕ} → Stands a s at x u → r ≡ seen g a s at → r ≡ No c q → B
+  back-no b h k = unlike (h ∙ stands-seen b) k
+
+  -- what is seen fits, and ends within the list
+  pub seen-fits : {r : Read} {v m : ℕ} → Bytes s → r ≡ seen g a s at → r ≡ Got v m → (x : A) × (a .Fit x × (v ≡ g x))
+  unfolding seen
+  seen-fits bs e k =
+      let o = told-got at g (a .read (drop at s)) e k in
+      (o .x, (a .forth (drop at s) (o .x) (o .n) (bytes-drop at s bs) (o .is) .fit, o .tells))
+
+  pub seen-ends : {r : Read} {v m : ℕ} → r ≡ seen g a s at → r ≡ Got v m → m ≤ at + (length s - at)
+  unfolding seen endOf
+  seen-ends e k =
+      let o = told-got at g (a .read (drop at s)) e k in
+      let i : endOf (got (o .x) (o .n)) ≤ length (drop at s) = rw (o .is) at (a .inside (drop at s)) in
+      omega (arith, o .ends, i, length-drop at s)
+
+-- of a row of n that ends at stop, with u behind it, what stands at p from place j of the row on
+pub record Ahead {A : Type 0} (a : ℕ → Format A) (s u : List ℕ) (n stop j p : ℕ) : Type 0 where
+  pub ys : List A
+  pub many : j + length ys ≡ n
+  pub fit : AllFit a j ys
+  pub is : drop p s ≡ eachWrite a j ys ++ u
+  pub ends : p + length (eachWrite a j ys) ≡ stop
+
+module _ {A : Type 0} {a : ℕ → Format A} {s u : List ℕ} {n stop j p : ℕ} where
+  -- the next value and the row behind it
+  pub record Next (b : Ahead a s u n stop j p) : Type 0 where
+    pub x : A
+    pub tail : List ℕ
+    pub stands : Stands (a j) s p x tail
+    pub rest : Ahead a s u n stop (j + 1) (p + length (a j .write x))
+    pub splits : b .ys ≡ x ∷ rest .ys
+
+  pub next : (b : Ahead a s u n stop j p) → j < n → Next b
+  unfolding AllFit eachWrite
+  next b l = go (b .ys) refl
+    where
+      go : (ys : List A) → b .ys ≡ ys → Next b
+      go [] e = absurd (omega (arith, b .many, ap length e))
+      go (x ∷ xs) e =
+          let f : AllFit a j (x ∷ xs) = rw e at (b .fit) in
+          let i : drop p s ≡ (a j .write x ++ eachWrite a (j + 1) xs) ++ u = rw e at (b .is) in
+          let k : drop p s ≡ a j .write x ++ (eachWrite a (j + 1) xs ++ u) = i ∙ append-assoc (a j .write x) (eachWrite a (j + 1) xs) u in
+          let z : p + length (a j .write x ++ eachWrite a (j + 1) xs) ≡ stop = rw e at (b .ends) in
+          record {
+            x = x;
+            tail = eachWrite a (j + 1) xs ++ u;
+            stands = record { fit = f .0; is = k };
+            rest = record {
+              ys = xs;
+              many = omega (arith, b .many, ap length e);
+              fit = f .1;
+              is = behind s p (a j .write x) (eachWrite a (j + 1) xs ++ u) k;
+              ends = omega (arith, z, length-append (a j .write x) (eachWrite a (j + 1) xs));
+            };
+            splits = e;
+          }
+
+  -- none is left
+  pub ahead-done : (b : Ahead a s u n stop j p) → n ≤ j → (b .ys ≡ []) × (p ≡ stop)
+  unfolding eachWrite
+  ahead-done b l = go (b .ys) refl
+    where
+      go : (ys : List A) → b .ys ≡ ys → (b .ys ≡ []) × (p ≡ stop)
+      go [] e = (e, sym (add-zero p) ∙ (let z : p + length (eachWrite a j []) ≡ stop = rw e at (b .ends) in z))
+      go (x ∷ xs) e = absurd (omega (arith, b .many, ap length e))

@@ -1,0 +1,200 @@
+-- Rows in a table, and a loop that fills one.
+use Prim.Native.Nat.{ℕ, suc, _+_, _-_, _*_, _^_, _<_, _≤_}
+use native.Mathlib.Nat.{add-zero, zero-add, add-assoc}
+use native.Mathlib.Omega.{arith}
+use mathlib.Core.Path.{_≡_, refl, sym, ap, ap₂, _∙_}
+use mathlib.Core.List.{List, [], _∷_, _++_, append-assoc}
+use mathlib.Core.Bool.{Bool, true, false}
+use lib.Dec.{eqb}
+use borrow.Author.Tests.{eq-eqb, ne-eqb}
+use lib.ListN.{length, take, drop, set, length-append, length-drop, take-append-drop}
+use lib.Seq.{sets-eq, take-at, drop-at, drop-drop, length-take-le}
+use Rattle.format.specs.declared.Fault.{Fault}
+use Rattle.format.specs.declared.Read.{Read}
+use Rattle.format.specs.declared.Read.the-variants.{Got, No}
+use Rattle.format.specs.Format.{Format, Bytes, pick}
+use Rattle.format.specs.Join.{pair, judged, via, seq, _then_}
+use Rattle.format.specs.Number.{number}
+use Rattle.format.specs.Seen.{seen, itself}
+use Rattle.format.specs.Rows.{total}
+use Rattle.format.specs.Back.{Ahead, Next, next, ahead-done, back-got, back-no, seen-fits}
+use Rattle.kind.specs.declared.Product.{Product}
+use Rattle.element.specs.Element.{Element, element, identifier, named}
+use Rattle.rule.specs.Rule.{placed, separator}
+use Rattle.tables.specs.Tables.{rowsOf, filled, elementRow, dataAt, elementWidth}
+
+-- the table with vs from k on
+unfoldable pub put : List ℕ → ℕ → List ℕ → List ℕ
+put t k vs = take k t ++ (vs ++ drop (k + length vs) t)
+
+pub put-none : (t : List ℕ) (k : ℕ) → put t k [] ≡ t
+unfolding put
+put-none t k = rw (add-zero, take-append-drop)
+
+pub length-put : (t : List ℕ) (k : ℕ) (vs : List ℕ) → k + length vs ≤ length t → length (put t k vs) ≡ length t
+unfolding put
+length-put t k vs h =
+    let a : k ≤ length t = omega arith in
+    simp (length-append, length-drop, length-take-le k t a) (omega arith)
+
+pub put-more : (t : List ℕ) (k : ℕ) (vs ws : List ℕ) → k + length vs ≤ length t → put t k (vs ++ ws) ≡ put (put t k vs) (k + length vs) ws
+unfolding put
+put-more t k vs ws h =
+    let a : k ≤ length t = omega arith in
+    let l : length (take k t ++ vs) ≡ k + length vs = simp (length-append, length-take-le k t a) in
+    let e : take k t ++ (vs ++ drop (k + length vs) t) ≡ (take k t ++ vs) ++ drop (k + length vs) t = sym (append-assoc (take k t) vs _) in
+    let d : drop (k + length vs + length ws) (take k t ++ (vs ++ drop (k + length vs) t)) ≡ drop (k + length vs + length ws) t =
+    ap (drop (k + length vs + length ws)) e ∙ sym (drop-drop (length ws) (k + length vs) _)
+    ∙ ap (drop (length ws)) (drop-at (take k t ++ vs) _ (k + length vs) l) ∙ drop-drop (length ws) (k + length vs) t in
+    let b : take (k + length vs) (take k t ++ (vs ++ drop (k + length vs) t)) ≡ take k t ++ vs =
+    ap (take (k + length vs)) e ∙ take-at (take k t ++ vs) _ (k + length vs) l in
+    rw (b, d) (simp (append-assoc, length-append, add-assoc))
+
+-- four stores
+pub put-four : (t : List ℕ) (at a b c d : ℕ) → at + 4 ≤ length t → set (set (set (set t at a) (at + 1) b) (at + 2) c) (at + 3) d ≡ put t at (a ∷ b ∷ c ∷ d ∷ [])
+unfolding put
+put-four t at a b c d h =
+    let e1 : at + 1 ≡ suc at = omega arith in
+    let e2 : at + 2 ≡ suc (suc at) = omega arith in
+    let e3 : at + 3 ≡ suc (suc (suc at)) = omega arith in
+    rw (e1, e2, e3) (sets-eq (a ∷ b ∷ c ∷ d ∷ []) t at h ∙ append-assoc (take at t) (a ∷ b ∷ c ∷ d ∷ []) _)
+
+pub put-front : (t vs : List ℕ) → put t 0 vs ≡ filled vs t
+unfolding put
+put-front t vs = rw zero-add
+
+-- a row of which the code has the numbers under other names
+pub put-row : (t : List ℕ) (k : ℕ) {t₁ : List ℕ} {a b c d a₁ b₁ c₁ d₁ : ℕ} → t₁ ≡ put t k (a ∷ b ∷ c ∷ d ∷ []) → a ≡ a₁ → b ≡ b₁ → c ≡ c₁ → d ≡ d₁ → t₁ ≡ put t k (a₁ ∷ b₁ ∷ c₁ ∷ d₁ ∷ [])
+put-row t k e ea eb ec ed = rw (← ea, ← eb, ← ec, ← ed) e
+
+-- ---- rows
+
+pub rows-long : {A : Type 0} (a : ℕ → Format A) (row : ℕ → ℕ → A → List ℕ) (w : ℕ) (f : A → ℕ) → ((i at : ℕ) (x : A) → length (row i at x) ≡ w * f x)
+    → (i at : ℕ) (xs : List A) → length (rowsOf a row i at xs) ≡ w * total f xs
+unfolding rowsOf total
+rows-long a row w f h i at [] = omega arith
+rows-long a row w f h i at (x ∷ xs) =
+    omega (arith, length-append (row i at x) (rowsOf a row (i + 1) (at + length (a i .write x)) xs), h i at x, rows-long a row w f h (i + 1) (at + length (a i .write x)) xs)
+
+pub total-one : {A : Type 0} (xs : List A) → total (λ x. 1) xs ≡ length xs
+unfolding total
+total-one [] = refl
+total-one (x ∷ xs) = omega (arith, total-one xs)
+
+-- rows are to come, and the table of len numbers is full up to k
+pub record Filling (rows whole : List ℕ) (len : ℕ) (t : List ℕ) (k : ℕ) : Type 0 where
+  pub long : length t ≡ len
+  pub room : k + length rows ≤ len
+  pub rest : put t k rows ≡ whole
+
+module _ (vs ws : List ℕ) {rows whole t : List ℕ} {len k : ℕ} where
+  pub filling-room : Filling rows whole len t k → rows ≡ vs ++ ws → k + length vs ≤ length t
+  filling-room f e = omega (arith, f .room, f .long, ap length e, length-append vs ws)
+
+  pub filling-go : {t₁ : List ℕ} {k₁ : ℕ} → Filling rows whole len t k → rows ≡ vs ++ ws → t₁ ≡ put t k vs → k₁ ≡ k + length vs → Filling ws whole len t₁ k₁
+  filling-go {t₁} {k₁} f e h l =
+      let r = filling-room f e in
+      record {
+        long = ap length h ∙ length-put t k vs r ∙ f .long;
+        room = omega (arith, f .room, ap length e, length-append vs ws, l);
+        rest = ap₂ (λ (x : List ℕ) (n : ℕ). put x n ws) h l ∙ sym (put-more t k vs ws r) ∙ ap (put t k) (sym e) ∙ f .rest;
+      }
+
+pub filling-done : {rows whole t : List ℕ} {len k : ℕ} → Filling rows whole len t k → rows ≡ [] → t ≡ whole
+filling-done {t = t} {k = k} f e = sym (put-none t k) ∙ ap (put t k) (sym e) ∙ f .rest
+
+pub filling-start : (rows t : List ℕ) (k : ℕ) → k + length rows ≤ length t → Filling rows (put t k rows) (length t) t k
+filling-start rows t k h = record { long = refl; room = h; rest = refl }
+
+module _ {A : Type 0} (a : ℕ → Format A) (row : ℕ → ℕ → A → List ℕ) {s u : List ℕ} {n stop j p : ℕ} (b : Ahead a s u n stop j p) where
+  pub rows-next : (x : Next b) → rowsOf a row j p (b .ys) ≡ row j p (x .x) ++ rowsOf a row (j + 1) (p + length (a j .write (x .x))) (x .rest .ys)
+  unfolding rowsOf
+  rows-next x = ap (rowsOf a row j p) (x .splits)
+
+  pub rows-done : n ≤ j → rowsOf a row j p (b .ys) ≡ []
+  unfolding rowsOf
+  rows-done l = ap (rowsOf a row j p) (ahead-done b l .0)
+
+-- ---- what the code promises: where values are known to stand ahead, they are read and their rows stored
+
+-- n elements of rule i at a place: r is the answer, t becomes t₁
+abbrev pub ElementsFill : Product → List ℕ → ℕ → ℕ → ℕ → ℕ → List ℕ → List ℕ → Read → Type 0
+ElementsFill p s at i n k t t₁ r =
+    (u : List ℕ) (stop : ℕ) (a : Ahead (placed p) s u n stop 0 at) → k + length (rowsOf (placed p) (elementRow p i) 0 at (a .ys)) ≤ length t
+    → (r ≡ Got n stop) × (t₁ ≡ put t k (rowsOf (placed p) (elementRow p i) 0 at (a .ys)))
+
+-- of them j are stored, and the next stands at q
+abbrev pub ElementsTurn : Product → List ℕ → ℕ → ℕ → ℕ → ℕ → List ℕ → ℕ → ℕ → List ℕ → Type 0
+ElementsTurn p s at i n k t j q t₁ =
+    (u : List ℕ) (stop : ℕ) (a : Ahead (placed p) s u n stop 0 at) → k + length (rowsOf (placed p) (elementRow p i) 0 at (a .ys)) ≤ length t
+    → (b : Ahead (placed p) s u n stop j q)
+    × Filling (rowsOf (placed p) (elementRow p i) j q (b .ys)) (put t k (rowsOf (placed p) (elementRow p i) 0 at (a .ys))) (length t) t₁ (k + elementWidth * j)
+
+module _ (p : Product) (s : List ℕ) (at i n k : ℕ) (t : List ℕ) where
+  pub elements-start : ElementsTurn p s at i n k t 0 at t
+  elements-start u stop a h = (a, record { long = refl; room = omega arith; rest = ap (λ (m : ℕ). put t m (rowsOf (placed p) (elementRow p i) 0 at (a .ys))) (add-zero k) })
+
+  module _ (j q : ℕ) (t₁ : List ℕ) (e : ElementsTurn p s at i n k t j q t₁) where
+    pub elements-done : n ≤ j → ElementsFill p s at i n k t t₁ (Got n q)
+    elements-done l u stop a h =
+        let b = e u stop a h in
+        (ap (Got n) (ahead-done (b .0) l .1), filling-done (b .1) (rows-done (placed p) (elementRow p i) (b .0) l))
+
+    module _ {r : Read} (l : j < n) (g : r ≡ seen named (placed p j) s q) where
+      pub elements-stop : {c : Fault} {o : ℕ} → r ≡ No c o → ElementsFill p s at i n k t t₁ r
+      elements-stop f u stop a h = back-no named (placed p j) s q (next (e u stop a h .0) l .stands) g f
+
+      pub elements-go : {v o d : ℕ} {t₂ : List ℕ} → r ≡ Got v o → d ≡ dataAt j q → (k + elementWidth * j + 4 ≤ length t₁ → t₂ ≡ put t₁ (k + elementWidth * j) (v ∷ i ∷ d ∷ o ∷ []))
+          → ElementsTurn p s at i n k t (j + 1) o t₂
+      elements-go {v} {o} {d} {t₂} f w z u stop a h =
+          let b = e u stop a h in
+          let x = next (b .0) l in
+          let m = back-got named (placed p j) s q (x .stands) g f in
+          let y = rows-next (placed p) (elementRow p i) (b .0) x in
+          let room : k + elementWidth * j + 4 ≤ length t₁ = filling-room (elementRow p i j q (x .x)) _ (b .1) y in
+          let st : t₂ ≡ put t₁ (k + elementWidth * j) (elementRow p i j q (x .x)) = put-row t₁ _ (z room) (m .0) refl w (m .1) in
+          rw (m .1) (x .rest, filling-go (elementRow p i j q (x .x)) _ (b .1) y st (omega arith))
+
+-- a number of elements below 2 ^ 16 and a place, or a refusal
+unfoldable pub Below : ℕ → Read → Type 0
+Below b (Got n m) = (n < 2 ^ 16) × (m ≤ b)
+Below b (No c q) = Unit {0}
+
+pub below-is : {b n m : ℕ} → n < 2 ^ 16 → m ≤ b → Below b (Got n m)
+unfolding Below
+below-is h k = (h, k)
+
+pub below-got : {b n m : ℕ} {r : Read} → Below b r → r ≡ Got n m → (n < 2 ^ 16) × (m ≤ b)
+unfolding Below
+below-got h e = rw e at h
+
+pub below-no : (b : ℕ) {q : ℕ} {c : Fault} {r : Read} → r ≡ No c q → Below b r
+unfolding Below
+below-no b e = rw e tt
+
+-- an identifier has 32 bits
+pub identifier-small : (p : Product) (j : ℕ) (s : List ℕ) (at : ℕ) {r : Read} {v m : ℕ} → Bytes s → r ≡ seen named (placed p j) s at → r ≡ Got v m → v < 2 ^ 32
+unfolding placed pick element identifier _then_ seq via pair judged number
+identifier-small p j s at bs e h = let o = seen-fits named (placed p j) s at bs e h in rw (o .1 .1) (go (eqb j 0) (o .0) (o .1 .0))
+  where
+    go : (b : Bool) (x : Element) → pick b (element p) (separator then element p) .Fit x → named x < 2 ^ 32
+    go true x f = f .0 .0 .0
+    go false x f = f .0 .1 .0 .0 .0
+
+module _ (j at : ℕ) where
+  pub data-first : j ≡ 0 → at + 4 ≡ dataAt j at
+  unfolding pick
+  data-first e = rw (eq-eqb j 0 e)
+
+  pub data-later : (j ≡ 0 → ⊥) → at + 6 ≡ dataAt j at
+  unfolding pick
+  data-later e = rw (ne-eqb j 0 e)
+
+pub two-small : (s : List ℕ) (at : ℕ) {r : Read} {v m : ℕ} → Bytes s → r ≡ seen itself (number 2) s at → r ≡ Got v m → v < 2 ^ 16
+unfolding number
+two-small s at bs e h = let o = seen-fits itself (number 2) s at bs e h in rw (o .1 .1) (o .1 .0)
+
+pub below-up : {a b : ℕ} (r : Read) → Below a r → a ≤ b → Below b r
+unfolding Below
+below-up (Got n m) h l = (h .0, omega (arith, h .1))
+below-up (No c q) h l = tt

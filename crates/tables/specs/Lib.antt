@@ -1,0 +1,5 @@
+pub mod Tables
+pub mod Fill
+pub mod Parts
+pub mod Whole
+pub mod Cases

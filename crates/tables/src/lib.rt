@@ -1,0 +1,191 @@
+// Reading a deck into two lent tables of 32-bit numbers: a pass that judges it, then one that fills them.
+use deck::Scan;
+use format::Fault;
+use format::Outcome;
+use format::Read;
+use kind::Edition;
+use kind::Product;
+ghost use mathlib.Core.Path.{_≡_};
+ghost use mathlib.Core.List.{[], _∷_};
+ghost use Prim.Native.Nat.{_≤_, _<_, _+_, _^_};
+ghost use lib.ListN.{length};
+ghost use Rattle.kind.specs.Kinds.{editionOf};
+ghost use Rattle.tables.specs.Tables.{dataAt, readSays, rulesAfter, elementsAfter};
+ghost use Rattle.tables.specs.Fill.{put, Below, ElementsFill};
+ghost use Rattle.tables.specs.Parts.{BodyFill, RuleFill, RulesFill};
+
+// The numbers of a row.
+const RULE_WIDTH: usize = 4;
+
+const ELEMENT_WIDTH: usize = 4;
+
+// Four numbers at a place of a table that has room for them.
+fn put4(t: &mut [u32], at: usize, a: u32, b: u32, c: u32, d: u32)
+    ensures { λ _. ⌜ (at + 4 ≤ length (now (t .entry)) → now (t .exit) ≡ put (now (t .entry)) at (a ∷ b ∷ c ∷ d ∷ [])) ⌝ }
+{
+    let n = t.len();
+    if n < 4 {
+        return;
+    }
+    if n - 4 < at {
+        return;
+    }
+    t[at] = a;
+    t[at + 1] = b;
+    t[at + 2] = c;
+    t[at + 3] = d;
+}
+
+// What follows goes over a deck that was accepted; its bounds only keep sums from wrapping.
+
+// Where the data of an element start that stands at place j of its rule.
+fn data_start(j: u64, at: usize) -> usize
+    requires { ⌜ at < 2 ^ 31 ⌝ }
+    ensures { λ r. ⌜ (r ≡ dataAt j at) × (r ≤ at + 6) ⌝ }
+{
+    if j == 0 {
+        return at + 4;
+    }
+    at + 6
+}
+
+// n elements of rule i, with their rows from k on; the value is n.
+fn fill_elements(
+    s: &[u8],
+    at: usize,
+    product: Product,
+    i: u64,
+    n: u64,
+    t: &mut [u32],
+    k: usize,
+) -> Read
+    requires { ⌜ length (now s) ≤ 60000 ⌝ }
+    requires { ⌜ at < 2 ^ 30 ⌝ }
+    requires { ⌜ i ≤ 256 ⌝ }
+    requires { ⌜ n < 2 ^ 16 ⌝ }
+    requires { ⌜ k < 2 ^ 30 ⌝ }
+    ensures { λ r. ⌜ ElementsFill product (now (s .entry)) at i n k (now (t .entry)) (now (t .exit)) r × Below (at + 60000) r ⌝ }
+{
+    let mut j = 0;
+    let mut p = at;
+    while j < n {
+        let r = rule::placed_at(s, p, product, j);
+        let Read::Got(id, q) = r else {
+            return r;
+        };
+        let d = data_start(j, p);
+        put4(
+            t,
+            k + ELEMENT_WIDTH * (j as usize),
+            id as u32,
+            i as u32,
+            d as u32,
+            q as u32,
+        );
+        p = q;
+        j += 1;
+    }
+    Read::Got(n, p)
+}
+
+// The number of elements of rule i, its head and its elements, with their rows from k on; the value is their number.
+fn fill_body(s: &[u8], at: usize, product: Product, i: u64, t: &mut [u32], k: usize) -> Read
+    requires { ⌜ length (now s) ≤ 60000 ⌝ }
+    requires { ⌜ at < 2 ^ 29 ⌝ }
+    requires { ⌜ i ≤ 256 ⌝ }
+    requires { ⌜ k < 2 ^ 30 ⌝ }
+    ensures { λ r. ⌜ BodyFill product (now (s .entry)) at i k (now (t .entry)) (now (t .exit)) r × Below (at + 120000) r ⌝ }
+{
+    let c = wire::u16_at(s, at);
+    let Read::Got(n, p) = c else {
+        return c;
+    };
+    let h = rule::head_at(s, p, i);
+    let Read::Got(_, q) = h else {
+        return h;
+    };
+    fill_elements(s, q, product, i, n, t, k)
+}
+
+// Rule i: its row, and the rows of its elements from k on; the value is their number.
+fn fill_rule(
+    s: &[u8],
+    at: usize,
+    product: Product,
+    i: u64,
+    rules: &mut [u32],
+    elements: &mut [u32],
+    k: usize,
+) -> Read
+    requires { ⌜ length (now s) ≤ 60000 ⌝ }
+    requires { ⌜ at < 2 ^ 28 ⌝ }
+    requires { ⌜ i ≤ 256 ⌝ }
+    requires { ⌜ k < 2 ^ 30 ⌝ }
+    ensures { λ r. ⌜ RuleFill product (now (s .entry)) at i k (now (rules .entry)) (now (rules .exit)) (now (elements .entry)) (now (elements .exit)) r × Below (at + 200000) r ⌝ }
+{
+    let l = text::length_at(s, at + 4);
+    let Read::Got(_, units) = l else {
+        return l;
+    };
+    let name = text::string_at(s, at + 4);
+    let Read::Got(_, p) = name else {
+        return name;
+    };
+    let r = fill_body(s, p + 24, product, i, elements, k);
+    let Read::Got(n, end) = r else {
+        return r;
+    };
+    put4(
+        rules,
+        RULE_WIDTH * (i as usize),
+        at as u32,
+        end as u32,
+        units as u32,
+        n as u32,
+    );
+    r
+}
+
+// The n rules of a deck.
+fn fill_rules(s: &[u8], product: Product, n: u64, rules: &mut [u32], elements: &mut [u32])
+    requires { ⌜ length (now s) ≤ 60000 ⌝ }
+    requires { ⌜ n ≤ 256 ⌝ }
+    ensures { λ _. ⌜ RulesFill product (now (s .entry)) n (now (rules .entry)) (now (rules .exit)) (now (elements .entry)) (now (elements .exit)) ⌝ }
+{
+    let mut i = 0;
+    let mut p: usize = 7;
+    let mut k: usize = 0;
+    while i < n {
+        let r = fill_rule(s, p, product, i, rules, elements, k);
+        let Read::Got(m, q) = r else {
+            return;
+        };
+        k += ELEMENT_WIDTH * (m as usize);
+        p = q;
+        i += 1;
+    }
+}
+
+// Reads a deck into two tables: the number of rules; or a refusal, with both tables as found.
+pub fn read(edition: u64, s: &[u8], rules: &mut [u32], elements: &mut [u32]) -> Outcome
+    ensures { λ r. ⌜ (r ≡ readSays (editionOf edition) (length (now (rules .entry))) (length (now (elements .entry))) (now (s .entry))) × ((now (rules .exit) ≡ rulesAfter (editionOf edition) (now (s .entry)) (now (rules .entry)) (now (elements .entry))) × (now (elements .exit) ≡ elementsAfter (editionOf edition) (now (s .entry)) (now (rules .entry)) (now (elements .entry)))) ⌝ }
+{
+    let e = kind::edition_of(edition);
+    let Edition::Of(product) = e else {
+        return Outcome::No(Fault::Edition, 0);
+    };
+    let scan = deck::pass(edition, s);
+    match scan {
+        Scan::No(c, p) => Outcome::No(c, p),
+        Scan::Is(n, m) => {
+            if ((rules.len() / RULE_WIDTH) as u64) < n {
+                return Outcome::No(Fault::Table, 0);
+            }
+            if ((elements.len() / ELEMENT_WIDTH) as u64) < m {
+                return Outcome::No(Fault::Table, 1);
+            }
+            fill_rules(s, product, n, rules, elements);
+            Outcome::Done(n as usize)
+        }
+    }
+}
