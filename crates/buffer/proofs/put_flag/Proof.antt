@@ -1,0 +1,24 @@
+use Rattle.format.specs.Number.{bit}
+use Rattle.format.specs.Format.{pick}
+use borrow.Author.Needs.{needs}
+use Rattle.buffer.proofs.put_flag.Statement.{statement}
+use Rattle.buffer.proofs.put_flag.Tie as tie
+
+returns : tie.Need-returns
+unfolding bit pick
+returns c = rw (c .before .before .before .before .if1 .taken) (c .before .before .put-number .ensures)
+
+returns-2 : tie.Need-returns-2
+unfolding bit pick
+returns-2 c = rw (c .before .before .before .before .if1 .left) (c .before .before .put-number2 .ensures)
+
+pub put-flag-spec : {M : Type 1} → statement M
+put-flag-spec =
+    tie.close
+    (tie.spec
+    (λ c κs. search needs)
+    (λ c κs. search needs)
+    (λ c. search needs)
+    returns
+    (λ c. search needs)
+    returns-2)
