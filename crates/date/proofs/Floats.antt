@@ -1,12 +1,12 @@
 -- A date as a float: the comparisons of a float say what `accepted` says of its bits, and no date is a not-a-number. Assumes nothing.
-use Prim.Native.Nat.{ℕ, _%_, _^_, _≤_}
+use Prim.Native.Nat.{ℕ, _%_, _^_, _≤_, _<_}
 use native.Mathlib.Omega.{arith}
 use mathlib.Core.Path.{_≡_, refl, sym, ap, _∙_, subst}
 use mathlib.Core.Bool.{Bool, true, false, not}
 use lib.Dec.{T, ltb}
 use lib.IntN.{pos}
 use lib.Ieee.{Float, nan, inf, fin, binary64, lt, ofBits, toBits, fits, isNan, nanBits}
-use lib.Ieee.Bits.{ofBits-toBits}
+use lib.Ieee.Bits.{ofBits-toBits, toBits-ofBits, nanBits-is}
 use borrow.Author.Tests.{ltb-true, ltb-false}
 use Rattle.date.specs.Double.{accepted}
 use Rattle.date.proofs.Range.{both, too-low, nan-out, no-nan}
@@ -21,6 +21,10 @@ module _ (x : Float) (f : fits binary64 x ≡ true) where
 
   pub float-low : lt (fin true 657435 (pos 0)) x ≡ false → false ≡ accepted (toBits binary64 x)
   float-low p = too-low (toBits binary64 x) (ap (lt (fin true 657435 (pos 0))) read-back ∙ p)
+
+-- and the bits of a number are those of its double
+pub bits-back : (bits : ℕ) → bits < 2 ^ 64 → T (not (nanBits binary64 bits)) → toBits binary64 (ofBits binary64 bits) ≡ bits
+bits-back bits f n = toBits-ofBits binary64 bits (omega arith) (subst (λ (b : Bool). T (not b)) (nanBits-is binary64 bits) n)
 
 -- a date is a number, by its bits and as a float
 pub date-no-nan : (bits : ℕ) → accepted bits ≡ true → T (not (nanBits binary64 bits))

@@ -230,7 +230,7 @@ place-small edition s bs = by (editionOf edition)
     by Edition.Unknown = omega arith
 
 -- ---- a sound deck is its header, 7 bytes, and the rules behind it
-header-length : (n : ℕ) → length (header .write n) ≡ 7
+pub header-length : (n : ℕ) → length (header .write n) ≡ 7
 unfolding header bytes mark fixed count via judged _then_ seq pair pairWrite number
 header-length n = omega (arith, length-append (spelt 3 (value mark)) (spelt 2 1 ++ spelt 2 n), length-append (spelt 2 1) (spelt 2 n), length-spelt 3 (value mark), length-spelt 2 1, length-spelt 2 n)
 

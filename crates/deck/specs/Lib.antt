@@ -1,2 +1,3 @@
 pub mod Deck
 pub mod Cases
+pub mod Written

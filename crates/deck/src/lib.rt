@@ -22,15 +22,15 @@ pub enum Scan {
 fn header_at(s: &[u8]) -> Read
     ensures { λ r. ⌜ r ≡ seen itself header (now (s .entry)) 0 ⌝ }
 {
-    let m = wire::fixed24_at(s, 0, 0x4B_4452, Fault::Mark);
+    let m = field::fixed24_at(s, 0, 0x4B_4452, Fault::Mark);
     let Read::Got(_, p) = m else {
         return m;
     };
-    let v = wire::fixed16_at(s, p, 1, Fault::Version);
+    let v = field::fixed16_at(s, p, 1, Fault::Version);
     let Read::Got(_, q) = v else {
         return v;
     };
-    wire::count16_at(s, q, 0, 256)
+    field::count16_at(s, q, 0, 256)
 }
 
 // n rules; the value is the number of their elements.

@@ -1,6 +1,6 @@
 -- The data of an element, by its kind: document 01, "The deck"; source document 001, sections 2.4.1, 2.4.2, 2.4.4, 2.4.10 and 2.4.11.
 use Prim.Native.Nat.{ℕ}
-use mathlib.Core.Path.{refl}
+use mathlib.Core.Path.{_≡_, refl, sym, ap}
 use mathlib.Core.Bool.{Bool, false}
 use mathlib.Core.List.{List, []}
 use Rattle.format.specs.declared.Fault.the-variants as Fault
@@ -80,3 +80,19 @@ dataOf (Kind.Simple r) = simpleData
 dataOf Kind.WordList = wordData
 dataOf (Kind.Size r) = sizeData
 dataOf (Kind.Dates r) = dateData
+
+-- ---- only a word list has words
+abbrev pub Other : Kind → Type 0
+Other Kind.Marker = Unit {0}
+Other (Kind.Simple r) = Unit {0}
+Other Kind.WordList = ⊥
+Other (Kind.Size r) = Unit {0}
+Other (Kind.Dates r) = Unit {0}
+
+pub words-none : (k : Kind) (x : Data) → dataOf k .Fit x → Other k → wordsOf x ≡ []
+unfolding markerData simpleData sizeData dateData via
+words-none Kind.Marker x f o = ap wordsOf (sym (f .1))
+words-none (Kind.Simple r) x f o = ap wordsOf (sym (f .1))
+words-none Kind.WordList x f o = absurd o
+words-none (Kind.Size r) x f o = ap wordsOf (sym (f .1))
+words-none (Kind.Dates r) x f o = ap wordsOf (sym (f .1))

@@ -1,25 +1,21 @@
-// Elements: an identifier and the data of its kind.
-use format::Fault;
+// The data of an element, by its kind.
 use format::Read;
 use kind::Kind;
-use kind::Product;
-use kind::Row;
 ghost use mathlib.Core.Path.{_≡_};
 ghost use Rattle.format.specs.Each.{each};
 ghost use Rattle.format.specs.Seen.{seen, none};
 ghost use Rattle.text.specs.Text.{word};
-ghost use Rattle.element.specs.Element.{element, named};
 ghost use Rattle.element.specs.Data.{oneZero, markerData, wordData, sizeData, limit, dateData, dataOf};
 
 // 1, 0: the two words that most data begin with.
 fn one_zero_at(s: &[u8], at: usize) -> Read
     ensures { λ r. ⌜ r ≡ seen none oneZero (now (s .entry)) at ⌝ }
 {
-    let a = wire::fixed32_at(s, at, 1);
+    let a = field::fixed32_at(s, at, 1);
     let Read::Got(_, p) = a else {
         return a;
     };
-    wire::fixed32_at(s, p, 0)
+    field::fixed32_at(s, p, 0)
 }
 
 fn marker_at(s: &[u8], at: usize) -> Read
@@ -29,7 +25,7 @@ fn marker_at(s: &[u8], at: usize) -> Read
     let Read::Got(_, p) = a else {
         return a;
     };
-    wire::fixed32_at(s, p, 1)
+    field::fixed32_at(s, p, 1)
 }
 
 // n words.
@@ -52,7 +48,7 @@ pub fn words_at(s: &[u8], at: usize, n: u64) -> Read
 fn word_list_at(s: &[u8], at: usize) -> Read
     ensures { λ r. ⌜ r ≡ seen none wordData (now (s .entry)) at ⌝ }
 {
-    let c = wire::count32_at(s, at, 0, 64);
+    let c = field::count32_at(s, at, 0, 64);
     let Read::Got(n, p) = c else {
         return c;
     };
@@ -77,11 +73,11 @@ fn size_at(s: &[u8], at: usize) -> Read
 fn limit_at(s: &[u8], at: usize) -> Read
     ensures { λ r. ⌜ r ≡ seen none limit (now (s .entry)) at ⌝ }
 {
-    let f = wire::flag_at(s, at);
+    let f = field::flag_at(s, at);
     let Read::Got(_, p) = f else {
         return f;
     };
-    let z = wire::fixed32_at(s, p, 0);
+    let z = field::fixed32_at(s, p, 0);
     let Read::Got(_, q) = z else {
         return z;
     };
@@ -112,46 +108,5 @@ pub fn data_at(s: &[u8], at: usize, kind: Kind) -> Read
         Kind::WordList => word_list_at(s, at),
         Kind::Size(_) => size_at(s, at),
         Kind::Dates(_) => dates_at(s, at),
-    }
-}
-
-// The data of a kind, of which the identifier is told.
-fn named_data_at(s: &[u8], at: usize, kind: Kind, identifier: u64) -> Read
-    ensures { λ r. ⌜ r ≡ seen (λ d. identifier) (dataOf kind) (now (s .entry)) at ⌝ }
-{
-    let d = data_at(s, at, kind);
-    let Read::Got(_, q) = d else {
-        return d;
-    };
-    Read::Got(identifier, q)
-}
-
-// The element at the start of a part; its value is its identifier.
-fn read_element(rest: &[u8], product: Product) -> Read
-    ensures { λ r. ⌜ r ≡ seen named (element product) (now (rest .entry)) 0 ⌝ }
-{
-    let r = wire::u32_at(rest, 0);
-    let Read::Got(identifier, p) = r else {
-        return r;
-    };
-    let row = kind::row_for(product, identifier);
-    match row {
-        Row::Is(kind) => named_data_at(rest, p, kind, identifier),
-        Row::No(c, _) => Read::No(c, 0),
-    }
-}
-
-// The element at a place.
-pub fn element_at(s: &[u8], at: usize, product: Product) -> Read
-    ensures { λ r. ⌜ r ≡ seen named (element product) (now (s .entry)) at ⌝ }
-{
-    if s.len() < at {
-        return Read::No(Fault::Cut, at);
-    }
-    let rest = &s[at..];
-    let r = read_element(rest, product);
-    match r {
-        Read::Got(identifier, n) => Read::Got(identifier, at + n),
-        Read::No(c, p) => Read::No(c, at + p),
     }
 }

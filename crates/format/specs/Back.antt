@@ -3,24 +3,19 @@ use Prim.Native.Nat.{ℕ, _+_, _-_, _≤_, _<_}
 use native.Mathlib.Nat.{add-zero}
 use native.Mathlib.Omega.{arith}
 use mathlib.Core.Path.{_≡_, refl, sym, ap, _∙_}
-use mathlib.Core.List.{List, [], _∷_, _++_, append-assoc}
+use mathlib.Core.List.{List, [], _∷_, _++_}
 use lib.ListN.{length, drop, length-append, length-drop}
 use Rattle.format.specs.declared.Fault.{Fault}
 use Rattle.format.specs.declared.Read.{Read}
 use Rattle.format.specs.declared.Read.the-variants.{Got, No}
 use Rattle.format.specs.Format.{got, endOf, Bytes, bytes-drop, Format}
-use Rattle.format.specs.Each.{eachWrite, AllFit}
+use Rattle.format.specs.Each.{eachWrite}
 use Rattle.format.specs.Seen.{seen, told-got, unlike}
-use Rattle.format.specs.Written.{behind, seen-back}
-
--- a value that fits stands at a place, with u behind it
-pub record Stands {A : Type 0} (a : Format A) (s : List ℕ) (at : ℕ) (x : A) (u : List ℕ) : Type 0 where
-  pub fit : a .Fit x
-  pub is : drop at s ≡ a .write x ++ u
+use Rattle.format.specs.Written.{seen-back, Stands, Held, Row, first}
 
 module _ {A : Type 0} (g : A → ℕ) (a : Format A) (s : List ℕ) (at : ℕ) where
   -- it is seen
-  stands-seen : {x : A} {u : List ℕ} → Stands a s at x u → seen g a s at ≡ Got (g x) (at + length (a .write x))
+  pub stands-seen : {x : A} {u : List ℕ} → Stands a s at x u → seen g a s at ≡ Got (g x) (at + length (a .write x))
   stands-seen {x} {u} b = seen-back g a x s at u (b .fit) (b .is)
 
   pub back-got : {x : A} {u : List ℕ} {r : Read} {v m : ℕ} → Stands a s at x u → r ≡ seen g a s at → r ≡ Got v m → (v ≡ g x) × (m ≡ at + length (a .write x))
@@ -43,12 +38,24 @@ module _ {A : Type 0} (g : A → ℕ) (a : Format A) (s : List ℕ) (at : ℕ) w
       let i : endOf (got (o .x) (o .n)) ≤ length (drop at s) = rw (o .is) at (a .inside (drop at s)) in
       omega (arith, o .ends, i, length-drop at s)
 
+-- it has room there
+pub stands-room : {A : Type 0} (a : Format A) (s : List ℕ) (at : ℕ) {x : A} {u : List ℕ} → Stands a s at x u → length (a .write x) ≤ length s - at
+stands-room a s at {x} {u} b = omega (arith, length-drop at s, ap length (b .is), length-append (a .write x) u)
+
+-- whatever value stands at a place, v is f of it
+unfoldable pub Where : {A W : Type 0} → Format A → List ℕ → ℕ → (A → W) → W → Type 0
+Where {A} a s at f v = (x : A) → Held a s at x → v ≡ f x
+
+-- none stands there
+pub where-none : {A W : Type 0} (g : A → ℕ) (a : Format A) (s : List ℕ) (at : ℕ) (f : A → W) (v : W) {r : Read} {c : Fault} {q : ℕ} → r ≡ seen g a s at → r ≡ No c q → Where a s at f v
+unfolding Where
+where-none g a s at f v e h x b = back-no g a s at (b .1) e h
+
 -- of a row of n that ends at stop, with u behind it, what stands at p from place j of the row on
 pub record Ahead {A : Type 0} (a : ℕ → Format A) (s u : List ℕ) (n stop j p : ℕ) : Type 0 where
   pub ys : List A
   pub many : j + length ys ≡ n
-  pub fit : AllFit a j ys
-  pub is : drop p s ≡ eachWrite a j ys ++ u
+  pub row : Row a s j p ys u
   pub ends : p + length (eachWrite a j ys) ≡ stop
 
 module _ {A : Type 0} {a : ℕ → Format A} {s u : List ℕ} {n stop j p : ℕ} where
@@ -61,29 +68,17 @@ module _ {A : Type 0} {a : ℕ → Format A} {s u : List ℕ} {n stop j p : ℕ}
     pub splits : b .ys ≡ x ∷ rest .ys
 
   pub next : (b : Ahead a s u n stop j p) → j < n → Next b
-  unfolding AllFit eachWrite
-  next b l = go (b .ys) refl
-    where
-      go : (ys : List A) → b .ys ≡ ys → Next b
-      go [] e = absurd (omega (arith, b .many, ap length e))
-      go (x ∷ xs) e =
-          let f : AllFit a j (x ∷ xs) = rw e at (b .fit) in
-          let i : drop p s ≡ (a j .write x ++ eachWrite a (j + 1) xs) ++ u = rw e at (b .is) in
-          let k : drop p s ≡ a j .write x ++ (eachWrite a (j + 1) xs ++ u) = i ∙ append-assoc (a j .write x) (eachWrite a (j + 1) xs) u in
-          let z : p + length (a j .write x ++ eachWrite a (j + 1) xs) ≡ stop = rw e at (b .ends) in
-          record {
-            x = x;
-            tail = eachWrite a (j + 1) xs ++ u;
-            stands = record { fit = f .0; is = k };
-            rest = record {
-              ys = xs;
-              many = omega (arith, b .many, ap length e);
-              fit = f .1;
-              is = behind s p (a j .write x) (eachWrite a (j + 1) xs ++ u) k;
-              ends = omega (arith, z, length-append (a j .write x) (eachWrite a (j + 1) xs));
-            };
-            splits = e;
-          }
+  unfolding eachWrite
+  next b l =
+      let f = first a s j p (b .ys) u (omega (arith, b .many)) (b .row) in
+      let z : length (eachWrite a j (b .ys)) ≡ length (a j .write (f .x)) + length (eachWrite a (j + 1) (f .ys)) = ap (λ (ys : List A). length (eachWrite a j ys)) (f .whole) ∙ length-append (a j .write (f .x)) (eachWrite a (j + 1) (f .ys)) in
+      record {
+        x = f .x;
+        tail = eachWrite a (j + 1) (f .ys) ++ u;
+        stands = f .stands;
+        rest = record { ys = f .ys; many = omega (arith, b .many, ap length (f .whole)); row = f .rest; ends = omega (arith, b .ends, z) };
+        splits = f .whole;
+      }
 
   -- none is left
   pub ahead-done : (b : Ahead a s u n stop j p) → n ≤ j → (b .ys ≡ []) × (p ≡ stop)

@@ -1,7 +1,8 @@
 -- Values in a row, each by the format of its place in the row; and a number of them before them.
 use Prim.Native.Nat.{ℕ, zero, suc, _+_, _-_, _≤_}
+use native.Mathlib.Nat.{add-zero, add-assoc}
 use native.Mathlib.Omega.{arith}
-use mathlib.Core.Path.{_≡_, refl, ap}
+use mathlib.Core.Path.{_≡_, refl, sym, ap}
 use mathlib.Core.List.{List, [], _∷_, _++_, append-assoc}
 use lib.ListN.{length, drop, length-append}
 use lib.Seq.{drop-append-seam}
@@ -73,3 +74,20 @@ each-long a i n xs f = f .0
 -- a number, then so many values of one format
 unfoldable pub listed : {A : Type 0} → Format ℕ → Format A → Format (List A)
 listed l a = counted l (each (λ i. a) 0) (each-long (λ i. a) 0)
+
+-- ---- rows that are written
+pub each-append : {A : Type 0} (a : ℕ → Format A) (i : ℕ) (xs ys : List A) → eachWrite a i (xs ++ ys) ≡ eachWrite a i xs ++ eachWrite a (i + length xs) ys
+unfolding eachWrite
+each-append a i [] ys = rw add-zero
+each-append a i (x ∷ xs) ys =
+    let e : i + 1 + length xs ≡ i + suc (length xs) = omega arith in
+    rw (each-append a (i + 1) xs ys, e) (sym (append-assoc (a i .write x) (eachWrite a (i + 1) xs) (eachWrite a (i + suc (length xs)) ys)))
+
+-- formats that write alike write the same row
+pub each-alike : {A : Type 0} (a b : ℕ → Format A) (i j : ℕ) (xs : List A) → ((n : ℕ) (x : A) → a (i + n) .write x ≡ b (j + n) .write x) → eachWrite a i xs ≡ eachWrite b j xs
+unfolding eachWrite
+each-alike a b i j [] h = refl
+each-alike a b i j (x ∷ xs) h =
+    let f : a i .write x ≡ b j .write x = rw (add-zero, add-zero) at (h 0 x) in
+    let g : (n : ℕ) (y : _) → a (i + 1 + n) .write y ≡ b (j + 1 + n) .write y = λ n y. rw (add-assoc, add-assoc) (h (1 + n) y) in
+    rw (f, each-alike a b (i + 1) (j + 1) xs g)

@@ -10,3 +10,4 @@ pub mod Parts
 pub mod Sizes
 pub mod Written
 pub mod Back
+pub mod Skip

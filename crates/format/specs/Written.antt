@@ -18,6 +18,15 @@ pub seen-back : {A : Type 0} (g : A → ℕ) (a : Format A) (x : A) (s : List �
 unfolding seen told
 seen-back g a x s at t f e = rw (e, a .back x t f)
 
+-- a value that fits stands at a place, with u behind it
+pub record Stands {A : Type 0} (a : Format A) (s : List ℕ) (at : ℕ) (x : A) (u : List ℕ) : Type 0 where
+  pub fit : a .Fit x
+  pub is : drop at s ≡ a .write x ++ u
+
+-- with something behind it
+abbrev pub Held : {A : Type 0} → Format A → List ℕ → ℕ → A → Type 0
+Held a s at x = (u : List ℕ) × Stands a s at x u
+
 -- a row that stands written at a place, taken apart
 module _ {A : Type 0} (a : ℕ → Format A) where
   pub record Row (s : List ℕ) (i at : ℕ) (xs : List A) (t : List ℕ) : Type 0 where
@@ -29,8 +38,7 @@ module _ {A : Type 0} (a : ℕ → Format A) where
     pub x : A
     pub ys : List A
     pub whole : xs ≡ x ∷ ys
-    pub fits : a i .Fit x
-    pub here : drop at s ≡ a i .write x ++ (eachWrite a (i + 1) ys ++ t)
+    pub stands : Stands (a i) s at x (eachWrite a (i + 1) ys ++ t)
     pub rest : Row s (i + 1) (at + length (a i .write x)) ys t
 
   pub first : (s : List ℕ) (i at : ℕ) (xs : List A) (t : List ℕ) → 0 < length xs → Row s i at xs t → First s i at xs t
@@ -38,4 +46,4 @@ module _ {A : Type 0} (a : ℕ → Format A) where
   first s i at [] t h r = absurd (omega arith)
   first s i at (x ∷ ys) t h r =
       let e : drop at s ≡ a i .write x ++ (eachWrite a (i + 1) ys ++ t) = r .is ∙ append-assoc (a i .write x) (eachWrite a (i + 1) ys) t in
-      record { x = x; ys = ys; whole = refl; fits = r .fit .0; here = e; rest = record { fit = r .fit .1; is = behind s at (a i .write x) (eachWrite a (i + 1) ys ++ t) e } }
+      record { x = x; ys = ys; whole = refl; stands = record { fit = r .fit .0; is = e }; rest = record { fit = r .fit .1; is = behind s at (a i .write x) (eachWrite a (i + 1) ys ++ t) e } }

@@ -12,7 +12,7 @@ use Rattle.format.specs.declared.Read.the-variants.{Got, No}
 use Rattle.format.specs.Format.{Format, Bytes, bytes-drop, pick}
 use Rattle.format.specs.Join.{pair, judged, via, seq, _then_, then-fit}
 use Rattle.format.specs.Number.{number, within-is, count, fixed, bytes, value, flag}
-use Rattle.format.specs.Each.{each, each-long, counted}
+use Rattle.format.specs.Each.{each, each-long, AllFit, counted}
 use Rattle.format.specs.Sized.{sized, measured}
 use Rattle.format.specs.Seen.{seen, itself, none, told-got, via-is, pair-stop, number-no}
 use Rattle.text.specs.Text.{string}
@@ -95,14 +95,19 @@ pub rule-past : (p : Product) (i : ℕ) (s : List ℕ) (at : ℕ) → length s <
 unfolding rule fields seq
 rule-past p i s at h = via-is elementsIn _ _ _ _ s at (pair-stop _ (number 4) _ s at itself (number-no 4 s at (omega arith)) refl)
 
--- a rule that fits has at most 64 elements, and so has one that was read
-rule-fits : (p : Product) (i : ℕ) (r : Rule) → rule p i .Fit r → elementsIn r ≤ 64
+-- a rule that fits has 1 to 64 elements, and so has one that was read
+pub rule-fits : (p : Product) (i : ℕ) (r : Rule) → rule p i .Fit r → (1 ≤ elementsIn r) × (elementsIn r ≤ 64)
 unfolding rule fields fromUnknown2 fromUnknown4 body sized counted count seq via judged pair measured
-rule-fits p i r f = within-is 1 64 (elementsIn r) (f .0 .1 .1 .1 .1 .1 .1 .1 .0 .0 .1 .0 .0 .0 .1) .1
+rule-fits p i r f = within-is 1 64 (elementsIn r) (f .0 .1 .1 .1 .1 .1 .1 .1 .0 .0 .1 .0 .0 .0 .1)
+
+-- and its head and its elements fit
+pub body-fits : (p : Product) (i : ℕ) (r : Rule) → rule p i .Fit r → head i .Fit tt × AllFit (placed p) 0 (r .elements)
+unfolding rule fields fromUnknown2 fromUnknown4 body sized counted count seq via judged pair measured _then_ each
+body-fits p i r f = let b = f .0 .1 .1 .1 .1 .1 .1 .1 .0 .0 .1 .0 .0 .1 in (b .0 .0, b .0 .1 .1)
 
 pub rule-small : (p : Product) (i : ℕ) (s : List ℕ) (at : ℕ) {r : Read} {v m : ℕ} → Bytes s → r ≡ seen elementsIn (rule p i) s at → r ≡ Got v m → v ≤ 64
 unfolding seen
 rule-small p i s at bs e h =
     let o = told-got at elementsIn (rule p i .read (drop at s)) e h in
     let f = rule p i .forth (drop at s) (o .x) (o .n) (bytes-drop at s bs) (o .is) in
-    rw (o .tells) (rule-fits p i (o .x) (f .fit))
+    rw (o .tells) (rule-fits p i (o .x) (f .fit) .1)

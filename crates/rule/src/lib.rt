@@ -12,22 +12,32 @@ ghost use Rattle.element.specs.Element.{named};
 ghost use Rattle.format.specs.Seen.{seen, none};
 ghost use Rattle.rule.specs.Rule.{separator, classHead, head, placed, body, fromUnknown4, fromUnknown2, rule, elementsIn};
 
+// The fixed fields of a rule; the signature is with Unknown1.
+pub struct Fields {
+    pub signature: u32,
+    pub on: bool,
+    pub unknown2: u32,
+    pub unknown3: u32,
+    pub unknown4: u32,
+    pub unknown5: u32,
+}
+
 // 8001.
 fn separator_at(s: &[u8], at: usize) -> Read
     ensures { λ r. ⌜ r ≡ seen none separator (now (s .entry)) at ⌝ }
 {
-    wire::fixed16_at(s, at, 0x8001, Fault::Field)
+    field::fixed16_at(s, at, 0x8001, Fault::Field)
 }
 
 // The long head behind its FFFF: 0000, 000C, `CRuleElement`.
 fn class_at(s: &[u8], at: usize) -> Read
     ensures { λ r. ⌜ r ≡ seen none classHead (now (s .entry)) at ⌝ }
 {
-    let z = wire::fixed16_at(s, at, 0x0000, Fault::Field);
+    let z = field::fixed16_at(s, at, 0x0000, Fault::Field);
     let Read::Got(_, p) = z else {
         return z;
     };
-    let n = wire::fixed16_at(s, p, 0x000C, Fault::Field);
+    let n = field::fixed16_at(s, p, 0x000C, Fault::Field);
     let Read::Got(_, q) = n else {
         return n;
     };
@@ -41,7 +51,7 @@ pub fn head_at(s: &[u8], at: usize, i: u64) -> Read
     if i != 0 {
         return separator_at(s, at);
     }
-    let f = wire::fixed16_at(s, at, 0xFFFF, Fault::Field);
+    let f = field::fixed16_at(s, at, 0xFFFF, Fault::Field);
     let Read::Got(_, p) = f else {
         return f;
     };
@@ -53,13 +63,13 @@ pub fn placed_at(s: &[u8], at: usize, product: Product, j: u64) -> Read
     ensures { λ r. ⌜ r ≡ seen named (placed product j) (now (s .entry)) at ⌝ }
 {
     if j == 0 {
-        return element::element_at(s, at, product);
+        return identified::element_at(s, at, product);
     }
     let b = separator_at(s, at);
     let Read::Got(_, p) = b else {
         return b;
     };
-    element::element_at(s, p, product)
+    identified::element_at(s, p, product)
 }
 
 // n elements of a rule.
@@ -83,7 +93,7 @@ fn elements_at(s: &[u8], at: usize, product: Product, n: u64) -> Read
 fn body_at(s: &[u8], at: usize, product: Product, i: u64) -> Read
     ensures { λ r. ⌜ r ≡ seen length (body product i) (now (s .entry)) at ⌝ }
 {
-    let c = wire::count16_at(s, at, 1, 64);
+    let c = field::count16_at(s, at, 1, 64);
     let Read::Got(n, p) = c else {
         return c;
     };
@@ -116,12 +126,12 @@ fn sized_at(s: &[u8], at: usize, product: Product, i: u64) -> Read
     let Read::Got(size, p) = d else {
         return d;
     };
-    let b = body_at(s, p, product, i);
-    let Read::Got(_, q) = b else {
-        return b;
+    let rest = body_at(s, p, product, i);
+    let Read::Got(n, q) = rest else {
+        return rest;
     };
     if spans(p, q, size) {
-        return b;
+        return Read::Got(n, q);
     }
     Read::No(Fault::Size, at)
 }
@@ -168,7 +178,7 @@ fn read_rule(rest: &[u8], product: Product, i: u64) -> Read
     let Read::Got(_, q) = name else {
         return name;
     };
-    let on = wire::flag_at(rest, q);
+    let on = field::flag_at(rest, q);
     let Read::Got(_, e) = on else {
         return on;
     };

@@ -19,6 +19,6 @@ pub sample-tables : (ruleRows Studio 0 7 (ruleA ∷ []) ≡ 7 ∷ 70 ∷ 12 ∷ 
 unfolding rowsOf ruleA className classHead firstHead head placed body fromUnknown4 fromUnknown2 fields rule identifier element oneZero simpleData has rowIn offered rowOf extended stringLength string sized measured each eachWrite counted listed number count fixed bytes flag bit value spelt pair pairWrite seq _then_ judged via atStart nothing pick
 sample-tables = (refl, refl)
 
-pub two-elements : elementRows Studio 3 126 ((0x1F5, plain) ∷ (0x1F5, plain) ∷ []) ≡ 0x1F5 ∷ 3 ∷ 104 ∷ 112 ∷ 0x1F5 ∷ 3 ∷ 118 ∷ 126 ∷ []
+pub two-elements : elementRows Studio 3 100 ((0x1F5, plain) ∷ (0x1F5, plain) ∷ []) ≡ 0x1F5 ∷ 3 ∷ 104 ∷ 112 ∷ 0x1F5 ∷ 3 ∷ 118 ∷ 126 ∷ []
 unfolding rowsOf placed identifier element oneZero simpleData has rowIn offered rowOf eachWrite number fixed spelt pair pairWrite seq _then_ judged via pick
 two-elements = refl

@@ -1,12 +1,11 @@
 -- Rows in a table, and a loop that fills one.
-use Prim.Native.Nat.{ℕ, suc, _+_, _-_, _*_, _^_, _<_, _≤_}
+use Prim.Native.Nat.{ℕ, suc, _+_, _*_, _^_, _<_, _≤_}
 use native.Mathlib.Nat.{add-zero, zero-add, add-assoc}
 use native.Mathlib.Omega.{arith}
 use mathlib.Core.Path.{_≡_, refl, sym, ap, ap₂, _∙_}
 use mathlib.Core.List.{List, [], _∷_, _++_, append-assoc}
 use mathlib.Core.Bool.{Bool, true, false}
 use lib.Dec.{eqb}
-use borrow.Author.Tests.{eq-eqb, ne-eqb}
 use lib.ListN.{length, take, drop, set, length-append, length-drop, take-append-drop}
 use lib.Seq.{sets-eq, take-at, drop-at, drop-drop, length-take-le}
 use Rattle.format.specs.declared.Fault.{Fault}
@@ -21,7 +20,8 @@ use Rattle.format.specs.Back.{Ahead, Next, next, ahead-done, back-got, back-no,
 use Rattle.kind.specs.declared.Product.{Product}
 use Rattle.element.specs.Element.{Element, element, identifier, named}
 use Rattle.rule.specs.Rule.{placed, separator}
-use Rattle.tables.specs.Tables.{rowsOf, filled, elementRow, dataAt, elementWidth}
+use Rattle.rule.specs.Places.{dataAt}
+use Rattle.tables.specs.Tables.{rowsOf, filled, elementRow, elementWidth}
 
 -- the table with vs from k on
 unfoldable pub put : List ℕ → ℕ → List ℕ → List ℕ
@@ -180,15 +180,6 @@ identifier-small p j s at bs e h = let o = seen-fits named (placed p j) s at bs 
     go : (b : Bool) (x : Element) → pick b (element p) (separator then element p) .Fit x → named x < 2 ^ 32
     go true x f = f .0 .0 .0
     go false x f = f .0 .1 .0 .0 .0
-
-module _ (j at : ℕ) where
-  pub data-first : j ≡ 0 → at + 4 ≡ dataAt j at
-  unfolding pick
-  data-first e = rw (eq-eqb j 0 e)
-
-  pub data-later : (j ≡ 0 → ⊥) → at + 6 ≡ dataAt j at
-  unfolding pick
-  data-later e = rw (ne-eqb j 0 e)
 
 pub two-small : (s : List ℕ) (at : ℕ) {r : Read} {v m : ℕ} → Bytes s → r ≡ seen itself (number 2) s at → r ≡ Got v m → v < 2 ^ 16
 unfolding number

@@ -1,169 +1,75 @@
 -- The parts of a rule that is known to stand at a place, and what the code reads and stores of it.
-use Prim.Native.Nat.{ℕ, _+_, _-_, _*_, _<_, _≤_}
+use Prim.Native.Nat.{ℕ, _+_, _*_, _<_, _≤_}
 use native.Mathlib.Omega.{arith}
-use mathlib.Core.Path.{_≡_, refl, sym, ap, ap₂, _∙_}
-use mathlib.Core.List.{List, [], _∷_, _++_, append-assoc}
-use lib.ListN.{length, drop, length-append}
+use mathlib.Core.Path.{_≡_, refl, sym, ap, _∙_}
+use mathlib.Core.List.{List, [], _∷_}
+use lib.ListN.{length}
 use Rattle.format.specs.declared.Fault.{Fault}
 use Rattle.format.specs.declared.Read.{Read}
 use Rattle.format.specs.declared.Read.the-variants.{Got, No}
-use Rattle.format.specs.Join.{pair, pairWrite, judged, via, seq, _then_, atStart}
-use Rattle.format.specs.Number.{number, count, flag, spelt, length-spelt, bit}
-use Rattle.format.specs.Each.{each, eachWrite, counted, listed}
-use Rattle.format.specs.Sized.{sized, measured}
+use Rattle.format.specs.Number.{number}
 use Rattle.format.specs.Seen.{seen, itself, none, unlike}
 use Rattle.format.specs.Rows.{total}
-use Rattle.format.specs.Written.{behind as past}
-use Rattle.format.specs.Back.{Stands, Ahead, Next, next, back-got, back-no}
+use Rattle.format.specs.Written.{Stands}
+use Rattle.format.specs.Back.{Ahead, Next, next, back-got, back-no}
 use Rattle.kind.specs.declared.Product.{Product}
 use Rattle.text.specs.Text.{stringLength, string}
 use Rattle.element.specs.Element.{Element}
-use Rattle.rule.specs.Rule.{Rule, rule, fields, fromUnknown2, fromUnknown4, body, head, placed, elementsIn}
-use Rattle.tables.specs.Tables.{rowsOf, ruleRow, ruleRows, elementRow, elementRows, ruleElementRows, allElementRows, elementsBytes, ruleBytes, ruleWidth, elementWidth}
+use Rattle.rule.specs.Rule.{Rule, rule, body, head, placed, elementsIn}
+use Rattle.rule.specs.Places.{ruleBytes, elementsAt, body-parts, behind-count, rule-parts}
+use Rattle.tables.specs.Tables.{ruleRow, ruleRows, elementRow, elementRows, ruleElementRows, allElementRows, ruleWidth, elementWidth}
 use Rattle.tables.specs.Fill.{put, put-row, rows-long, total-one, rows-next, rows-done, Filling, filling-start, filling-room, filling-go, filling-done, ElementsFill}
 
--- what stands behind a number of k bytes
-behind : (s : List ℕ) (at k v : ℕ) (w u : List ℕ) → drop at s ≡ (spelt k v ++ w) ++ u → drop (at + k) s ≡ w ++ u
-behind s at k v w u e = rw length-spelt at (past s at (spelt k v) (w ++ u) (e ∙ append-assoc (spelt k v) w u))
-
-long : (k v : ℕ) (w : List ℕ) → length (spelt k v ++ w) ≡ k + length w
-long k v w = length-append (spelt k v) w ∙ ap (λ (m : ℕ). m + length w) (length-spelt k v)
-
--- a String's length stands at its start
-pub string-length : (s : List ℕ) (at : ℕ) (name u : List ℕ) → Stands string s at name u → (w : List ℕ) × Stands stringLength s at (length name) w
-unfolding string atStart listed counted via pair pairWrite each
-string-length s at name u b =
-    let units = eachWrite (λ i. number 2) 0 name in
-    (units ++ u, record { fit = b .fit .0 .0; is = b .is ∙ append-assoc (stringLength .write (length name)) units u })
-
 -- ---- the number of a rule's elements, its head, its elements
-
-pub record BodyParts (p : Product) (i : ℕ) (s : List ℕ) (at : ℕ) (xs : List Element) (u : List ℕ) : Type 0 where
-  pub behindCount : List ℕ
-  pub behindHead : List ℕ
-  pub many : Stands (number 2) s at (length xs) behindCount
-  pub headed : Stands (head i) s (at + 2) tt behindHead
-  pub elements : Ahead (placed p) s u (length xs) (at + length (body p i .write xs)) 0 (at + 2 + length (head i .write tt))
-  pub same : elements .ys ≡ xs
-  pub starts : at + 2 + length (head i .write tt) ≡ at + length (body p i .write xs) - elementsBytes p xs
-
-module _ (p : Product) (i : ℕ) (s : List ℕ) (at : ℕ) (xs : List Element) (u : List ℕ) where
-  pub body-parts : Stands (body p i) s at xs u → BodyParts p i s at xs u
-  unfolding body counted count _then_ seq via judged pair pairWrite each number
-  body-parts b =
-      let h = head i .write tt in
-      let es = eachWrite (placed p) 0 xs in
-      let eh : drop (at + 2) s ≡ (h ++ es) ++ u = behind s at 2 (length xs) (h ++ es) u (b .is) in
-      let eh2 : drop (at + 2) s ≡ h ++ (es ++ u) = eh ∙ append-assoc h es u in
-      let l : length (body p i .write xs) ≡ 2 + (length h + length es) = omega (arith, long 2 (length xs) (h ++ es), length-append h es) in
-      record {
-        behindCount = (h ++ es) ++ u;
-        behindHead = es ++ u;
-        many = record { fit = b .fit .0 .0 .0; is = b .is ∙ append-assoc (spelt 2 (length xs)) (h ++ es) u };
-        headed = record { fit = b .fit .0 .1 .0 .0; is = eh2 };
-        elements = record { ys = xs; many = omega arith; fit = b .fit .0 .1 .0 .1 .1; is = past s (at + 2) h (es ++ u) eh2; ends = omega (arith, l) };
-        same = refl;
-        starts = omega (arith, l);
-      }
 
 -- where they are known to stand at a place: r is the answer, t becomes t₁
 abbrev pub BodyFill : Product → List ℕ → ℕ → ℕ → ℕ → List ℕ → List ℕ → Read → Type 0
 BodyFill p s at i k t t₁ r =
-    (xs : List Element) (u : List ℕ) → Stands (body p i) s at xs u → k + length (elementRows p i (at + length (body p i .write xs)) xs) ≤ length t
-    → (r ≡ Got (length xs) (at + length (body p i .write xs))) × (t₁ ≡ put t k (elementRows p i (at + length (body p i .write xs)) xs))
+    (xs : List Element) (u : List ℕ) → Stands (body p i) s at xs u → k + length (elementRows p i (at + 2 + length (head i .write tt)) xs) ≤ length t
+    → (r ≡ Got (length xs) (at + length (body p i .write xs))) × (t₁ ≡ put t k (elementRows p i (at + 2 + length (head i .write tt)) xs))
 
 module _ (p : Product) (s : List ℕ) (at i k : ℕ) (t t₁ : List ℕ) {c : Read} (e : c ≡ seen itself (number 2) s at) where
   pub body-cut : {f : Fault} {o : ℕ} → c ≡ No f o → BodyFill p s at i k t t₁ c
-  body-cut h xs u b l = back-no itself (number 2) s at (body-parts p i s at xs u b .many) e h
+  body-cut h xs u b l = back-no itself (number 2) s at (body-parts p i s at xs u b .many .1) e h
 
   module _ {n m : ℕ} (h : c ≡ Got n m) {d : Read} (g : d ≡ seen none (head i) s m) where
-    after : {xs : List Element} {u : List ℕ} (b : BodyParts p i s at xs u) → (n ≡ length xs) × ((m ≡ at + 2) × Stands (head i) s m tt (b .behindHead))
-    unfolding number
-    after {xs} b =
-        let z = back-got itself (number 2) s at (b .many) e h in
-        let w : m ≡ at + 2 = z .1 ∙ ap (λ (w : ℕ). at + w) (length-spelt 2 (length xs)) in
-        (z .0, (w, rw w (b .headed)))
-
     pub body-off : {f : Fault} {o : ℕ} → d ≡ No f o → BodyFill p s at i k t t₁ d
-    body-off w xs u b l = back-no none (head i) s m (after (body-parts p i s at xs u b) .1 .1) g w
+    body-off w xs u b l = back-no none (head i) s m (behind-count p i s at (body-parts p i s at xs u b) e h .1 .1 .1) g w
 
     pub body-go : {v q : ℕ} {r : Read} → d ≡ Got v q → ElementsFill p s q i n k t t₁ r → BodyFill p s at i k t t₁ r
     body-go {q = q} {r = r} w f xs u b l =
         let y = body-parts p i s at xs u b in
-        let z = after y in
-        let stop = at + length (body p i .write xs) in
-        let o : q ≡ at + 2 + length (head i .write tt) = back-got none (head i) s m (z .1 .1) g w .1 ∙ ap (λ (x : ℕ). x + length (head i .write tt)) (z .1 .0) in
+        let z = behind-count p i s at y e h in
+        let o : q ≡ at + 2 + length (head i .write tt) = back-got none (head i) s m (z .1 .1 .1) g w .1 ∙ ap (λ (x : ℕ). x + length (head i .write tt)) (z .1 .0) in
         let a : ElementsFill p s (at + 2 + length (head i .write tt)) i (length xs) k t t₁ r = rw (o, z .0) at f in
-        let rows : rowsOf (placed p) (elementRow p i) 0 (at + 2 + length (head i .write tt)) (y .elements .ys) ≡ elementRows p i stop xs = ap₂ (rowsOf (placed p) (elementRow p i) 0) (y .starts) (y .same) in
-        let j = a u stop (y .elements) (rw rows l) in
-        (j .0, j .1 ∙ ap (put t k) rows)
+        a u (at + length (body p i .write xs)) (record { ys = xs; many = omega arith; row = y .elements; ends = y .ends }) l
 
 -- ---- a rule
-
-pub record RuleParts (p : Product) (i : ℕ) (s : List ℕ) (at : ℕ) (x : Rule) (u : List ℕ) : Type 0 where
-  pub behindLength : List ℕ
-  pub behindName : List ℕ
-  pub lengthed : Stands stringLength s (at + 4) (length (x .name)) behindLength
-  pub named : Stands string s (at + 4) (x .name) behindName
-  pub bodied : Stands (body p i) s (at + 4 + length (string .write (x .name)) + 24) (x .elements) u
-  pub ends : at + 4 + length (string .write (x .name)) + 24 + length (body p i .write (x .elements)) ≡ at + ruleBytes p i x
-
-module _ (p : Product) (i : ℕ) (s : List ℕ) (at : ℕ) (x : Rule) (u : List ℕ) where
-  pub rule-parts : Stands (rule p i) s at x u → RuleParts p i s at x u
-  unfolding rule fields fromUnknown2 fromUnknown4 sized measured flag via seq pair pairWrite judged number
-  rule-parts b =
-      let n = string .write (x .name) in
-      let w8 = body p i .write (x .elements) in
-      let w7 = spelt 4 (length w8) ++ w8 in
-      let w6 = spelt 4 (x .unknown5) ++ w7 in
-      let w5 = spelt 4 (x .unknown4) ++ w6 in
-      let w4 = spelt 4 (x .unknown3) ++ w5 in
-      let w3 = spelt 4 (x .unknown2) ++ w4 in
-      let w2 = spelt 4 (bit (x .on)) ++ w3 in
-      let q = at + 4 + length n in
-      let e1 : drop (at + 4) s ≡ n ++ (w2 ++ u) = behind s at 4 (x .signature) (n ++ w2) u (b .is) ∙ append-assoc n w2 u in
-      let e2 = past s (at + 4) n (w2 ++ u) e1 in
-      let e3 = behind s q 4 (bit (x .on)) w3 u e2 in
-      let e4 = behind s (q + 4) 4 (x .unknown2) w4 u e3 in
-      let e5 = behind s (q + 4 + 4) 4 (x .unknown3) w5 u e4 in
-      let e6 = behind s (q + 4 + 4 + 4) 4 (x .unknown4) w6 u e5 in
-      let e7 = behind s (q + 4 + 4 + 4 + 4) 4 (x .unknown5) w7 u e6 in
-      let e8 = behind s (q + 4 + 4 + 4 + 4 + 4) 4 (length w8) w8 u e7 in
-      let eq : q + 4 + 4 + 4 + 4 + 4 + 4 ≡ q + 24 = omega arith in
-      let st : Stands string s (at + 4) (x .name) (w2 ++ u) = record { fit = b .fit .0 .1 .0; is = e1 } in
-      let le = string-length s (at + 4) (x .name) (w2 ++ u) st in
-      record {
-        behindLength = le .0;
-        behindName = w2 ++ u;
-        lengthed = le .1;
-        named = st;
-        bodied = record { fit = b .fit .0 .1 .1 .1 .1 .1 .1 .1 .0 .0 .1 .0; is = sym (ap (λ (m : ℕ). drop m s) eq) ∙ e8 };
-        ends = omega (arith, long 4 (x .signature) (n ++ w2), length-append n w2, long 4 (bit (x .on)) w3, long 4 (x .unknown2) w4, long 4 (x .unknown3) w5, long 4 (x .unknown4) w6, long 4 (x .unknown5) w7, long 4 (length w8) w8);
-      }
 
 -- where a rule is known to stand at a place: r is the answer, and the tables t and e become t₁ and e₁
 abbrev pub RuleFill : Product → List ℕ → ℕ → ℕ → ℕ → List ℕ → List ℕ → List ℕ → List ℕ → Read → Type 0
 RuleFill p s at i k t t₁ e e₁ r =
     (x : Rule) (u : List ℕ) → Stands (rule p i) s at x u → ruleWidth * i + length (ruleRow p i at x) ≤ length t
-    → k + length (elementRows p i (at + ruleBytes p i x) (x .elements)) ≤ length e
-    → (r ≡ Got (elementsIn x) (at + ruleBytes p i x)) × ((t₁ ≡ put t (ruleWidth * i) (ruleRow p i at x)) × (e₁ ≡ put e k (elementRows p i (at + ruleBytes p i x) (x .elements))))
+    → k + length (ruleElementRows p i at x) ≤ length e
+    → (r ≡ Got (elementsIn x) (at + ruleBytes p i x)) × ((t₁ ≡ put t (ruleWidth * i) (ruleRow p i at x)) × (e₁ ≡ put e k (ruleElementRows p i at x)))
 
 module _ (p : Product) (s : List ℕ) (at i k : ℕ) (t t₁ e e₁ : List ℕ) where
   pub rule-cut : {r : Read} {f : Fault} {o : ℕ} → r ≡ seen itself stringLength s (at + 4) → r ≡ No f o → RuleFill p s at i k t t₁ e e₁ r
-  rule-cut g h x u b lt le = back-no itself stringLength s (at + 4) (rule-parts p i s at x u b .lengthed) g h
+  rule-cut g h x u b lt le = back-no itself stringLength s (at + 4) (rule-parts p i s at x u b .lengthed .1) g h
 
   module _ {c : Read} (g : c ≡ seen length string s (at + 4)) where
     pub rule-nameless : {f : Fault} {o : ℕ} → c ≡ No f o → RuleFill p s at i k t t₁ e e₁ c
-    rule-nameless h x u b lt le = back-no length string s (at + 4) (rule-parts p i s at x u b .named) g h
+    rule-nameless h x u b lt le = back-no length string s (at + 4) (rule-parts p i s at x u b .named .1) g h
 
     module _ {v m : ℕ} (h : c ≡ Got v m) {r : Read} (f : BodyFill p s (m + 24) i k e e₁ r) where
-      bodied : (x : Rule) (u : List ℕ) → Stands (rule p i) s at x u → k + length (elementRows p i (at + ruleBytes p i x) (x .elements)) ≤ length e
-          → (r ≡ Got (elementsIn x) (at + ruleBytes p i x)) × (e₁ ≡ put e k (elementRows p i (at + ruleBytes p i x) (x .elements)))
+      bodied : (x : Rule) (u : List ℕ) → Stands (rule p i) s at x u → k + length (ruleElementRows p i at x) ≤ length e
+          → (r ≡ Got (elementsIn x) (at + ruleBytes p i x)) × (e₁ ≡ put e k (ruleElementRows p i at x))
       bodied x u b le =
           let y = rule-parts p i s at x u b in
-          let o : m ≡ at + 4 + length (string .write (x .name)) = back-got length string s (at + 4) (y .named) g h .1 in
+          let o : m ≡ at + 4 + length (string .write (x .name)) = back-got length string s (at + 4) (y .named .1) g h .1 in
           let w : m + 24 + length (body p i .write (x .elements)) ≡ at + ruleBytes p i x = omega (arith, o, y .ends) in
-          rw w at (f (x .elements) u (rw o (y .bodied)) (rw w le))
+          let v : m + 24 + 2 + length (head i .write tt) ≡ elementsAt p i at x = omega (arith, o, y .begins) in
+          rw (w, v) at (f (x .elements) u (rw o (y .bodied)) (rw v le))
 
       pub rule-bare : {d : Fault} {o : ℕ} → r ≡ No d o → RuleFill p s at i k t t₁ e e₁ r
       rule-bare w x u b lt le = unlike (bodied x u b le .0) w
@@ -174,7 +80,7 @@ module _ (p : Product) (s : List ℕ) (at i k : ℕ) (t t₁ e e₁ : List ℕ) 
           let y = rule-parts p i s at x u b in
           let d = bodied x u b le in
           let same : Got n q ≡ Got (elementsIn x) (at + ruleBytes p i x) = sym w ∙ d .0 in
-          (same, (put-row t _ (st lt) refl (cc) (back-got itself stringLength s (at + 4) (y .lengthed) gl hl .1) (cc), d .1))
+          (same, (put-row t _ (st lt) refl (cc) (back-got itself stringLength s (at + 4) (y .lengthed .1) gl hl .1) (cc), d .1))
 
 -- ---- the rules of a deck, behind its header
 
@@ -198,7 +104,7 @@ pub rule-rows-long : (p : Product) (at : ℕ) (rs : List Rule) → length (ruleR
 rule-rows-long p at rs = rows-long (rule p) (ruleRow p) ruleWidth (λ x. 1) (λ i q x. refl) 0 at rs ∙ ap (λ (m : ℕ). ruleWidth * m) (total-one rs)
 
 pub all-rows-long : (p : Product) (at : ℕ) (rs : List Rule) → length (allElementRows p 0 at rs) ≡ elementWidth * total elementsIn rs
-all-rows-long p at rs = rows-long (rule p) (ruleElementRows p) elementWidth elementsIn (λ i q x. element-rows-long p i (q + ruleBytes p i x) (x .elements)) 0 at rs
+all-rows-long p at rs = rows-long (rule p) (ruleElementRows p) elementWidth elementsIn (λ i q x. element-rows-long p i (elementsAt p i q x) (x .elements)) 0 at rs
 
 module _ (p : Product) (s : List ℕ) (n : ℕ) (t e : List ℕ) where
   pub rules-start : RulesTurn p s n t e 0 7 0 t e
@@ -230,5 +136,5 @@ module _ (p : Product) (s : List ℕ) (n : ℕ) (t e : List ℕ) where
           let same : Got m o ≡ Got (elementsIn (x .x)) (q + ruleBytes p i (x .x)) = sym h ∙ d .0 in
           let em : m ≡ elementsIn (x .x) = cc in
           let eo : o ≡ q + ruleBytes p i (x .x) = cc in
-          let w = element-rows-long p i (q + ruleBytes p i (x .x)) (x .x .elements) in
+          let w = element-rows-long p i (elementsAt p i q (x .x)) (x .x .elements) in
           rw (eo, em) (x .rest, (filling-go (ruleRow p i q (x .x)) _ (b .1 .0) (rows-next (rule p) (ruleRow p) (b .0) x) (d .1 .0) (omega arith), filling-go (ruleElementRows p i q (x .x)) _ (b .1 .1) (rows-next (rule p) (ruleElementRows p) (b .0) x) (d .1 .1) (ap (λ (z : ℕ). k + z) (sym w))))

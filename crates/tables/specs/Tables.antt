@@ -1,20 +1,19 @@
 -- Reading with tables: document 01, "Tables and views" and "Numbers a refusal gives".
-use Prim.Native.Nat.{ℕ, _+_, _-_, _*_}
+use Prim.Native.Nat.{ℕ, _+_, _*_}
 use mathlib.Core.List.{List, [], _∷_, _++_}
-use lib.Dec.{leb, eqb}
+use lib.Dec.{leb}
 use lib.ListN.{length, drop}
 use Rattle.format.specs.declared.Fault.the-variants as Fault
 use Rattle.format.specs.declared.Outcome.{Outcome}
 use Rattle.format.specs.declared.Outcome.the-variants.{Done, No, Given}
 use Rattle.format.specs.Format.{Answer, got, refused, pick, Format}
-use Rattle.format.specs.Each.{eachWrite}
 use Rattle.format.specs.Rows.{total}
-use Rattle.text.specs.Text.{stringLength}
 use Rattle.kind.specs.declared.Product.{Product}
 use Rattle.kind.specs.declared.Edition.{Edition}
 use Rattle.kind.specs.declared.Edition.the-variants as Edition
 use Rattle.element.specs.Element.{Element}
 use Rattle.rule.specs.Rule.{Rule, rule, placed, elementsIn}
+use Rattle.rule.specs.Places.{ruleBytes, unitsAt, elementsAt, dataAt}
 use Rattle.deck.specs.Deck.{readAs}
 
 -- the numbers of a row
@@ -29,17 +28,6 @@ unfoldable pub rowsOf : {A : Type 0} → (ℕ → Format A) → (ℕ → ℕ →
 rowsOf a row i at [] = []
 rowsOf a row i at (x ∷ xs) = row i at x ++ rowsOf a row (i + 1) (at + length (a i .write x)) xs
 
--- the bytes of rule i, and of a rule's elements
-abbrev pub ruleBytes : Product → ℕ → Rule → ℕ
-ruleBytes p i r = length (rule p i .write r)
-
-abbrev pub elementsBytes : Product → List Element → ℕ
-elementsBytes p xs = length (eachWrite (placed p) 0 xs)
-
--- "first byte of the name's units": behind the signature and the String's length
-abbrev pub unitsAt : ℕ → Rule → ℕ
-unitsAt at r = at + 4 + length (stringLength .write (length (r .name)))
-
 -- "Per rule, four: start, end, first byte of the name's units, number of elements"
 abbrev pub ruleRow : Product → ℕ → ℕ → Rule → List ℕ
 ruleRow p i at r = at ∷ (at + ruleBytes p i r) ∷ unitsAt at r ∷ elementsIn r ∷ []
@@ -47,21 +35,16 @@ ruleRow p i at r = at ∷ (at + ruleBytes p i r) ∷ unitsAt at r ∷ elementsIn
 abbrev pub ruleRows : Product → ℕ → ℕ → List Rule → List ℕ
 ruleRows p = rowsOf (rule p) (ruleRow p)
 
--- behind the identifier; 8001 stands before all but the first
-abbrev pub dataAt : ℕ → ℕ → ℕ
-dataAt j at = at + pick (eqb j 0) 4 6
-
 -- "Per element, four: identifier, rule number, start and end of data"
 abbrev pub elementRow : Product → ℕ → ℕ → ℕ → Element → List ℕ
 elementRow p i j at x = x .0 ∷ i ∷ dataAt j at ∷ (at + length (placed p j .write x)) ∷ []
 
--- the elements of rule i that end at a place
+-- the elements of rule i that start at a place
 abbrev pub elementRows : Product → ℕ → ℕ → List Element → List ℕ
-elementRows p i end xs = rowsOf (placed p) (elementRow p i) 0 (end - elementsBytes p xs) xs
+elementRows p i at xs = rowsOf (placed p) (elementRow p i) 0 at xs
 
--- a rule's elements end where it ends
 abbrev pub ruleElementRows : Product → ℕ → ℕ → Rule → List ℕ
-ruleElementRows p i at r = elementRows p i (at + ruleBytes p i r) (r .elements)
+ruleElementRows p i at r = elementRows p i (elementsAt p i at r) (r .elements)
 
 abbrev pub allElementRows : Product → ℕ → ℕ → List Rule → List ℕ
 allElementRows p = rowsOf (rule p) (ruleElementRows p)

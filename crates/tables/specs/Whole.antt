@@ -1,21 +1,19 @@
 -- The whole read: what the first pass tells of the second, and that the promise leaves one outcome.
-use Prim.Native.Nat.{ℕ, _+_, _-_, _*_, _/_, _<_, _≤_}
+use Prim.Native.Nat.{ℕ, _*_, _/_, _<_, _≤_}
 use native.Mathlib.Omega.{arith}
 use mathlib.Core.Path.{_≡_, refl, sym, ap, _∙_}
-use mathlib.Core.List.{List, [], _++_, append-nil}
-use lib.ListN.{length, drop, length-append}
+use mathlib.Core.List.{List, []}
+use lib.ListN.{length, length-append}
 use borrow.Author.Tests.{le-leb, lt-leb}
 use Rattle.format.specs.declared.Fault.{Fault}
 use Rattle.format.specs.declared.Fault.the-variants as Fault
 use Rattle.format.specs.declared.Outcome.{Outcome}
 use Rattle.format.specs.declared.Outcome.the-variants.{Done, No}
 use Rattle.format.specs.Format.{Answer, got, refused, Bytes, pick}
-use Rattle.format.specs.Join.{pair, pairWrite, judged, via, seq, _then_}
-use Rattle.format.specs.Number.{number, count, fixed, bytes, spelt}
+use Rattle.format.specs.Join.{pair, pairWrite, via}
 use Rattle.format.specs.Each.{each, eachWrite, counted}
 use Rattle.format.specs.Rows.{total}
 use Rattle.format.specs.Back.{Ahead}
-use Rattle.format.specs.Written.{behind}
 use Rattle.kind.specs.declared.Product.{Product}
 use Rattle.kind.specs.declared.Edition.{Edition}
 use Rattle.kind.specs.declared.Edition.the-variants as Edition
@@ -23,25 +21,15 @@ use Rattle.kind.specs.Kinds.{editionOf}
 use Rattle.rule.specs.Rule.{Rule, rule, elementsIn}
 use Rattle.deck.specs.declared.Scan.{Scan}
 use Rattle.deck.specs.declared.Scan.the-variants as Scan
-use Rattle.deck.specs.Deck.{mark, header, deck, readAs, readBy, readDeck, scanned, Whole, read-writes-back, deck-small}
+use Rattle.deck.specs.Deck.{header, header-length, deck, deck-row, readAs, readBy, readDeck, scanned, Whole, read-writes-back, deck-small}
 use Rattle.tables.specs.Tables.{ruleWidth, elementWidth, ruleRows, allElementRows, tabled, filled, rulesLeft, elementsLeft, readSays, rulesAfter, elementsAfter}
 use Rattle.tables.specs.Fill.{put, put-front}
 use Rattle.tables.specs.Parts.{RulesFill, rule-rows-long, all-rows-long}
 
--- the header has 7 bytes
-header-long : (n : ℕ) → length (header .write n) ≡ 7
-unfolding header mark bytes fixed count _then_ seq via judged pair pairWrite number spelt
-header-long n = refl
-
--- behind them stand the rules, to the last byte
+-- behind its header stand the rules, to the last byte
 pub deck-ahead : (p : Product) (s : List ℕ) (rs : List Rule) (m : ℕ) → Whole p s rs m → (a : Ahead (rule p) s [] (length rs) (length s) 0 7) × (a .ys ≡ rs)
 unfolding deck counted via pair pairWrite each
-deck-ahead p s rs m w =
-    let h = header .write (length rs) in
-    let es = eachWrite (rule p) 0 rs in
-    let l = header-long (length rs) in
-    let e : drop 0 s ≡ h ++ es = w .is in
-    (record { ys = rs; many = omega arith; fit = w .fit .0 .1 .1; is = rw l at (behind s 0 h es e) ∙ sym (append-nil es); ends = omega (arith, l, ap length (w .is), length-append h es) }, refl)
+deck-ahead p s rs m w = (record { ys = rs; many = omega arith; row = deck-row p s rs (w .fit) (w .is); ends = omega (arith, header-length (length rs), ap length (w .is), length-append (header .write (length rs)) (eachWrite (rule p) 0 rs)) }, refl)
 
 -- what the first pass tells
 record Tells (p : Product) (s : List ℕ) (n m : ℕ) : Type 0 where

@@ -10,7 +10,8 @@ ghost use mathlib.Core.List.{[], _∷_};
 ghost use Prim.Native.Nat.{_≤_, _<_, _+_, _^_};
 ghost use lib.ListN.{length};
 ghost use Rattle.kind.specs.Kinds.{editionOf};
-ghost use Rattle.tables.specs.Tables.{dataAt, readSays, rulesAfter, elementsAfter};
+ghost use Rattle.rule.specs.Places.{dataAt};
+ghost use Rattle.tables.specs.Tables.{readSays, rulesAfter, elementsAfter};
 ghost use Rattle.tables.specs.Fill.{put, Below, ElementsFill};
 ghost use Rattle.tables.specs.Parts.{BodyFill, RuleFill, RulesFill};
 

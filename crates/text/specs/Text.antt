@@ -10,7 +10,7 @@ use Rattle.format.specs.declared.Fault.the-variants.{Cut, Form, Field}
 use Rattle.format.specs.declared.Read.{Read}
 use Rattle.format.specs.declared.Read.the-variants.{Got, No}
 use Rattle.format.specs.Format.{Format, pick}
-use Rattle.format.specs.Join.{pair, pairWrite, via, atStart, nothing, _then_}
+use Rattle.format.specs.Join.{pair, pairWrite, via, judged, seq, atStart, nothing, _then_}
 use Rattle.format.specs.Number.{number, fixed, spelt, length-spelt}
 use Rattle.format.specs.Each.{each, eachWrite, counted, listed}
 use Rattle.format.specs.Seen.{seen, itself, none, told-is, via-is, pair-stop, pair-go, pick-yes, yes-eq, start-got, start-no}
@@ -72,3 +72,8 @@ units-length i (u ∷ us) = omega (arith, length-append (spelt 2 u) (eachWrite (
 pub string-length : (us : List ℕ) → length (string .write us) ≡ length (stringLength .write (length us)) + 2 * length us
 unfolding string atStart listed counted via pair pairWrite each
 string-length us = omega (arith, length-append (stringLength .write (length us)) (eachWrite (λ j. number 2) 0 us), units-length 0 us)
+
+-- a word's 4 zero bytes before it
+pub word-length : (us : List ℕ) → length (word .write us) ≡ 4 + length (string .write us)
+unfolding word fixed _then_ seq via judged pair pairWrite number
+word-length us = omega (arith, length-append (spelt 4 0) (string .write us), length-spelt 4 0)

@@ -17,7 +17,7 @@ pub fn length_at(s: &[u8], at: usize) -> Read
     if n != 255 {
         return b;
     }
-    let w = wire::fixed16_at(s, p, 255, Fault::Form);
+    let w = field::fixed16_at(s, p, 255, Fault::Form);
     let Read::Got(_, q) = w else {
         return w;
     };
@@ -53,7 +53,7 @@ pub fn string_at(s: &[u8], at: usize) -> Read
 pub fn word_at(s: &[u8], at: usize) -> Read
     ensures { λ r. ⌜ r ≡ seen length word (now (s .entry)) at ⌝ }
 {
-    let z = wire::fixed32_at(s, at, 0);
+    let z = field::fixed32_at(s, at, 0);
     let Read::Got(_, p) = z else {
         return z;
     };

@@ -1,22 +1,15 @@
-// The value of an element's data, and the way back.
+// The value of an element's data.
 use format::Fault;
-use format::Outcome;
 use format::Read;
 use kind::Edition;
 use kind::Kind;
 use kind::Row;
 ghost use mathlib.Core.Path.{_≡_};
-ghost use lib.ListN.{length};
-ghost use Prim.Native.Nat.{_+_, _≤_};
-ghost use mathlib.Core.Bool.{true};
-ghost use lib.Ieee.{binary64, ofBits, toBits};
-ghost use Rattle.format.specs.Number.{number, spelt, bit};
+ghost use lib.Ieee.{binary64, ofBits};
+ghost use Rattle.format.specs.Number.{number};
 ghost use Rattle.format.specs.Seen.{seen, itself};
 ghost use Rattle.date.specs.Date.{date};
-ghost use Rattle.date.specs.Double.{accepted};
-ghost use Rattle.element.specs.Data.{plain, sizes, oneZero, markerData, simpleData, sizeData, limit, dateData};
-ghost use Rattle.value.specs.Value.{valueOf, fromKind, shape, isOf, fromSpan, ifRoom, planData, planKind, plan, says, leaves};
-ghost use Rattle.value.specs.Put.{put, Does, limitOf, spanData};
+ghost use Rattle.value.specs.Value.{valueOf, fromKind};
 ghost use Rattle.value.specs.Places.{valueOr0, spanAt, valueAt};
 
 // A date span: whether the after date counts and whether the before date does, and the two dates.
@@ -112,163 +105,9 @@ pub fn value_of(edition: u64, identifier: u32, s: &[u8]) -> Valued
     let Edition::Of(product) = e else {
         return Valued::No(Fault::Edition, 0);
     };
-    let row = kind::row_for(product, identifier as u64);
+    let row = row::row_for(product, identifier as u64);
     match row {
         Row::Is(kind) => value_as(kind, identifier, s),
         Row::No(c, p) => Valued::Given(c, p),
-    }
-}
-
-// k bytes of a number, the lowest first.
-fn put_number(buf: &mut [u8], at: usize, k: usize, n: u64)
-    requires { ⌜ at + k ≤ length (now buf) ⌝ }
-    ensures { λ _. ⌜ now (buf .exit) ≡ put (now (buf .entry)) at (spelt k n) ⌝ }
-{
-    let mut i = 0;
-    let mut rest = n;
-    while i < k {
-        buf[at + i] = (rest % 256) as u8;
-        rest = rest / 256;
-        i += 1;
-    }
-}
-
-// 1, 0: two words of 4 bytes, written as one number.
-fn put_one_zero(buf: &mut [u8])
-    requires { ⌜ 8 ≤ length (now buf) ⌝ }
-    ensures { λ _. ⌜ now (buf .exit) ≡ put (now (buf .entry)) 0 (oneZero .write tt) ⌝ }
-{
-    put_number(buf, 0, 8, 1);
-}
-
-fn bit_of(yes: bool) -> u64
-    ensures { λ r. ⌜ r ≡ bit yes ⌝ }
-{
-    if yes { 1 } else { 0 }
-}
-
-// One end of a date span: flag and 0, written as one number, and the date.
-fn put_limit(buf: &mut [u8], at: usize, counts: bool, days: f64)
-    requires { ⌜ at + 16 ≤ length (now buf) ⌝ }
-    requires { ⌜ accepted (toBits binary64 days) ≡ true ⌝ }
-    ensures { λ _. ⌜ now (buf .exit) ≡ put (now (buf .entry)) at (limit .write (limitOf counts days)) ⌝ }
-{
-    put_number(buf, at, 8, bit_of(counts));
-    put_number(buf, at + 8, 8, f64::to_bits(days));
-}
-
-fn put_marker(buf: &mut [u8]) -> Outcome
-    ensures { λ r. ⌜ Does (now (buf .entry)) (ifRoom (length (now (buf .entry))) (markerData .write plain)) r (now (buf .exit)) ⌝ }
-{
-    if buf.len() < 12 {
-        return Outcome::No(Fault::Room, 0);
-    }
-    put_one_zero(buf);
-    put_number(buf, 8, 4, 1);
-    Outcome::Done(12)
-}
-
-fn put_simple(buf: &mut [u8]) -> Outcome
-    ensures { λ r. ⌜ Does (now (buf .entry)) (ifRoom (length (now (buf .entry))) (simpleData .write plain)) r (now (buf .exit)) ⌝ }
-{
-    if buf.len() < 8 {
-        return Outcome::No(Fault::Room, 0);
-    }
-    put_one_zero(buf);
-    Outcome::Done(8)
-}
-
-fn put_sizes(buf: &mut [u8], min: u32, max: u32) -> Outcome
-    ensures { λ r. ⌜ Does (now (buf .entry)) (ifRoom (length (now (buf .entry))) (sizeData .write (sizes min max))) r (now (buf .exit)) ⌝ }
-{
-    if buf.len() < 16 {
-        return Outcome::No(Fault::Room, 0);
-    }
-    put_one_zero(buf);
-    put_number(buf, 8, 4, min as u64);
-    put_number(buf, 12, 4, max as u64);
-    Outcome::Done(16)
-}
-
-fn put_span(buf: &mut [u8], span: Span) -> Outcome
-    requires { ⌜ (accepted (toBits binary64 (span .after)) ≡ true) × (accepted (toBits binary64 (span .before)) ≡ true) ⌝ }
-    ensures { λ r. ⌜ Does (now (buf .entry)) (ifRoom (length (now (buf .entry))) (dateData .write (spanData span))) r (now (buf .exit)) ⌝ }
-{
-    if buf.len() < 40 {
-        return Outcome::No(Fault::Room, 0);
-    }
-    put_one_zero(buf);
-    put_limit(buf, 8, span.starts, span.after);
-    put_limit(buf, 24, span.ends, span.before);
-    Outcome::Done(40)
-}
-
-// 43 before 20.
-fn put_dates(buf: &mut [u8], span: Span) -> Outcome
-    ensures { λ r. ⌜ Does (now (buf .entry)) (planData dateData (length (now (buf .entry))) (fromSpan span)) r (now (buf .exit)) ⌝ }
-{
-    if date::in_range(span.after) {
-        if date::in_range(span.before) {
-            return put_span(buf, span);
-        }
-        return Outcome::Given(Fault::Date, 32);
-    }
-    Outcome::Given(Fault::Date, 16)
-}
-
-fn shape_of(kind: Kind) -> u64
-    ensures { λ r. ⌜ r ≡ shape kind ⌝ }
-{
-    match kind {
-        Kind::Marker => 1,
-        Kind::Simple(_) => 2,
-        Kind::WordList => 3,
-        Kind::Size(_) => 4,
-        Kind::Dates(_) => 5,
-    }
-}
-
-// Whether a value is of the kind; a simple one must have the identifier too.
-fn is_of(kind: Kind, identifier: u32, value: Value) -> bool
-    ensures { λ r. ⌜ r ≡ isOf kind identifier value ⌝ }
-{
-    let k = shape_of(kind);
-    match value {
-        Value::Marker => k == 1,
-        Value::Simple(n) => k == 2 && n == identifier,
-        Value::Words(_) => k == 3,
-        Value::Size(_, _) => k == 4,
-        Value::Dates(_) => k == 5,
-    }
-}
-
-// A value as the data of a kind: 40 first.
-fn put_as(kind: Kind, identifier: u32, value: Value, buf: &mut [u8]) -> Outcome
-    ensures { λ r. ⌜ Does (now (buf .entry)) (planKind kind identifier value (length (now (buf .entry)))) r (now (buf .exit)) ⌝ }
-{
-    if !is_of(kind, identifier, value) {
-        return Outcome::Given(Fault::Field, 0);
-    }
-    match value {
-        Value::Marker => put_marker(buf),
-        Value::Simple(_) => put_simple(buf),
-        Value::Size(min, max) => put_sizes(buf, min, max),
-        Value::Dates(span) => put_dates(buf, span),
-        Value::Words(_) => Outcome::Given(Fault::Field, 0),
-    }
-}
-
-// A value as the data of an identifier in an edition, written at the start of a buffer.
-pub fn put_value(edition: u64, identifier: u32, value: Value, buf: &mut [u8]) -> Outcome
-    ensures { λ r. ⌜ (r ≡ says (plan edition identifier value (length (now (buf .entry))))) × (now (buf .exit) ≡ leaves (now (buf .entry)) (plan edition identifier value (length (now (buf .entry))))) ⌝ }
-{
-    let e = kind::edition_of(edition);
-    let Edition::Of(product) = e else {
-        return Outcome::No(Fault::Edition, 0);
-    };
-    let row = kind::row_for(product, identifier as u64);
-    match row {
-        Row::Is(kind) => put_as(kind, identifier, value, buf),
-        Row::No(c, p) => Outcome::Given(c, p),
     }
 }

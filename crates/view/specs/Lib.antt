@@ -1,4 +1,4 @@
 pub mod Asked
-pub mod Places
 pub mod View
 pub mod Fixed
+pub mod Word

@@ -4,16 +4,25 @@ use format::Fault;
 use format::Outcome;
 use format::Read;
 use kind::Edition;
+use kind::Kind;
 use kind::Product;
+use kind::Row;
+use rule::Fields;
 ghost use mathlib.Core.Path.{_≡_};
 ghost use lib.ListN.{length};
-ghost use Rattle.view.specs.Fixed.{Number, Holds, fixedFields};
-ghost use Rattle.view.specs.View.{Views, Inside, nameView, shown, placed};
-ghost use Rattle.view.specs.Places.{Reached};
+ghost use Rattle.format.specs.Skip.{Skipped};
+ghost use Rattle.format.specs.Back.{Where};
+ghost use Rattle.text.specs.Text.{word};
+ghost use Rattle.element.specs.Data.{wordData, dataOf};
+ghost use Rattle.rule.specs.Rule.{rule, placed as inRule};
+ghost use Rattle.view.specs.Asked.{Finds};
+ghost use Rattle.view.specs.Fixed.{Number, fixedAt, fixedFields};
+ghost use Rattle.view.specs.Word.{Words, Identifies, WordOf, Counts, Elements, dataWord, ruleWord, wordView};
+ghost use Rattle.view.specs.View.{Units, Inside, nameAt, nameView, shown, placed};
 
 // Where rule k of a sound deck starts.
 fn start_of(s: &[u8], product: Product, k: u64) -> usize
-    ensures { λ r. ⌜ Reached product (now (s .entry)) k k r ⌝ }
+    ensures { λ r. ⌜ Skipped (rule product) (now (s .entry)) 7 k k r ⌝ }
 {
     let mut i = 0;
     let mut p = 7;
@@ -34,23 +43,33 @@ pub enum View {
     No(Fault, usize),
 }
 
+// The units of a String that was read: they end where it ends.
+fn units_of(s: &[u8], t: Read) -> View
+    ensures { λ v. ⌜ Units (length (now (s .entry))) t v × Inside v (length (now (s .entry))) ⌝ }
+{
+    let Read::Got(n, e) = t else {
+        return View::No(Fault::Cut, 0);
+    };
+    let units = n as usize;
+    if s.len() < e {
+        return View::No(Fault::Cut, 0);
+    }
+    if e / 2 < units {
+        return View::No(Fault::Cut, 0);
+    }
+    View::At(e - 2 * units, 2 * units)
+}
+
 // The name of rule k of a sound deck.
 fn name_at(s: &[u8], product: Product, k: u64) -> View
-    ensures { λ v. ⌜ Views product (now (s .entry)) k v × Inside v (length (now (s .entry))) ⌝ }
+    ensures { λ v. ⌜ Finds product (now (s .entry)) k nameAt v × Inside v (length (now (s .entry))) ⌝ }
 {
     let at = start_of(s, product, k);
     if wire::left(s, at) < 4 {
         return View::No(Fault::Cut, at);
     }
     let t = text::string_at(s, at + 4);
-    let Read::Got(n, e) = t else {
-        return View::No(Fault::Cut, at);
-    };
-    let units = n as usize;
-    if e / 2 < units {
-        return View::No(Fault::Cut, at);
-    }
-    View::At(e - 2 * units, 2 * units)
+    units_of(s, t)
 }
 
 // The name of rule k: where its units stand and how many bytes they are.
@@ -73,11 +92,11 @@ pub fn find_name(edition: u64, s: &[u8], k: u64) -> View
     }
 }
 
-// The name of rule k as a part of the deck's bytes; the empty part at the start where it is refused.
-pub fn name(edition: u64, s: &[u8], k: u64) -> &[u8]
-    ensures { λ r. ⌜ now r ≡ shown (nameView edition k (now (s .entry))) (now (s .entry)) ⌝ }
+// The part of a slice that a view within it shows; the empty part at the start where it is refused.
+fn part(s: &[u8], v: View) -> &[u8]
+    requires { ⌜ Inside v (length (now s)) ⌝ }
+    ensures { λ r. ⌜ now r ≡ shown v (now (s .entry)) ⌝ }
 {
-    let v = find_name(edition, s, k);
     let View::At(a, n) = v else {
         return &s[..0];
     };
@@ -85,27 +104,224 @@ pub fn name(edition: u64, s: &[u8], k: u64) -> &[u8]
     &s[a..b]
 }
 
-// The number and place of that view.
-pub fn name_place(edition: u64, s: &[u8], k: u64) -> Outcome
-    ensures { λ r. ⌜ r ≡ placed (nameView edition k (now (s .entry))) ⌝ }
+// The number and place of a view.
+pub fn place_of(v: View) -> Outcome
+    ensures { λ r. ⌜ r ≡ placed v ⌝ }
 {
-    let v = find_name(edition, s, k);
     match v {
         View::At(a, _) => Outcome::Done(a),
         View::No(c, p) => Outcome::No(c, p),
     }
 }
 
-// The fixed fields of a rule; the signature is with Unknown1.
-pub struct Fields {
-    pub signature: u32,
-    pub on: bool,
-    pub unknown2: u32,
-    pub unknown3: u32,
-    pub unknown4: u32,
-    pub unknown5: u32,
+// The name of rule k as a part of the deck's bytes.
+pub fn name(edition: u64, s: &[u8], k: u64) -> &[u8]
+    ensures { λ r. ⌜ now r ≡ shown (nameView edition k (now (s .entry))) (now (s .entry)) ⌝ }
+{
+    let v = find_name(edition, s, k);
+    part(s, v)
 }
 
+// The number and place of that view.
+pub fn name_place(edition: u64, s: &[u8], k: u64) -> Outcome
+    ensures { λ r. ⌜ r ≡ placed (nameView edition k (now (s .entry))) ⌝ }
+{
+    let v = find_name(edition, s, k);
+    place_of(v)
+}
+
+// What follows finds a word in a sound deck.
+
+// Where word w of a row of words starts.
+fn word_start(s: &[u8], at: usize, w: u64) -> usize
+    ensures { λ r. ⌜ Skipped (λ i. word) (now (s .entry)) at w w r ⌝ }
+{
+    let mut i = 0;
+    let mut p = at;
+    while i < w {
+        let r = text::word_at(s, p);
+        let Read::Got(_, q) = r else {
+            return 0;
+        };
+        p = q;
+        i += 1;
+    }
+    p
+}
+
+// Word w of a row of words.
+fn word_in(s: &[u8], at: usize, w: u64) -> View
+    ensures { λ v. ⌜ Words (now (s .entry)) at w v × Inside v (length (now (s .entry))) ⌝ }
+{
+    let q = word_start(s, at, w);
+    let t = text::word_at(s, q);
+    units_of(s, t)
+}
+
+// Word w of the data of a word list.
+fn list_word(s: &[u8], at: usize, w: u64) -> View
+    ensures { λ v. ⌜ Where wordData (now (s .entry)) at (dataWord w at) v × Inside v (length (now (s .entry))) ⌝ }
+{
+    let c = wire::u32_at(s, at);
+    let Read::Got(n, p) = c else {
+        return View::No(Fault::Cut, at);
+    };
+    if n <= w {
+        return View::No(Fault::Absent, 2);
+    }
+    word_in(s, p, w)
+}
+
+// Word w of the data of a kind.
+fn data_word(s: &[u8], at: usize, kind: Kind, w: u64) -> View
+    ensures { λ v. ⌜ Where (dataOf kind) (now (s .entry)) at (dataWord w at) v × Inside v (length (now (s .entry))) ⌝ }
+{
+    match kind {
+        Kind::WordList => list_word(s, at, w),
+        Kind::Marker => View::No(Fault::Absent, 2),
+        Kind::Simple(_) => View::No(Fault::Absent, 2),
+        Kind::Size(_) => View::No(Fault::Absent, 2),
+        Kind::Dates(_) => View::No(Fault::Absent, 2),
+    }
+}
+
+// The identifier of the element at place j of its rule, behind its 8001; it ends where its data start.
+fn identifier_at(s: &[u8], at: usize, j: u64) -> Read
+    ensures { λ r. ⌜ Identifies (now (s .entry)) at j r ⌝ }
+{
+    if j == 0 {
+        return wire::u32_at(s, at);
+    }
+    if wire::left(s, at) < 2 {
+        return Read::No(Fault::Cut, at);
+    }
+    wire::u32_at(s, at + 2)
+}
+
+// Word w of the element at place e of its rule.
+fn element_word(s: &[u8], at: usize, product: Product, e: u64, w: u64) -> View
+    ensures { λ v. ⌜ WordOf product (now (s .entry)) at e w v × Inside v (length (now (s .entry))) ⌝ }
+{
+    let r = identifier_at(s, at, e);
+    let Read::Got(id, q) = r else {
+        return View::No(Fault::Cut, at);
+    };
+    let row = row::row_for(product, id);
+    let Row::Is(kind) = row else {
+        return View::No(Fault::Cut, at);
+    };
+    data_word(s, q, kind, w)
+}
+
+// Where element e of a row of elements starts.
+fn element_start(s: &[u8], at: usize, product: Product, e: u64) -> usize
+    ensures { λ r. ⌜ Skipped (inRule product) (now (s .entry)) at e e r ⌝ }
+{
+    let mut j = 0;
+    let mut p = at;
+    while j < e {
+        let r = rule::placed_at(s, p, product, j);
+        let Read::Got(_, q) = r else {
+            return 0;
+        };
+        p = q;
+        j += 1;
+    }
+    p
+}
+
+// The number of elements of rule i, and where they start behind its head.
+fn counted_at(s: &[u8], at: usize, i: u64) -> Read
+    ensures { λ r. ⌜ Counts (now (s .entry)) at i r ⌝ }
+{
+    let c = wire::u16_at(s, at);
+    let Read::Got(n, p) = c else {
+        return c;
+    };
+    let h = rule::head_at(s, p, i);
+    let Read::Got(_, q) = h else {
+        return h;
+    };
+    Read::Got(n, q)
+}
+
+// The same, from the start of rule i.
+fn elements_of(s: &[u8], at: usize, i: u64) -> Read
+    ensures { λ r. ⌜ Elements (now (s .entry)) at i r ⌝ }
+{
+    if wire::left(s, at) < 4 {
+        return Read::No(Fault::Cut, at);
+    }
+    let t = text::string_at(s, at + 4);
+    let Read::Got(_, e) = t else {
+        return t;
+    };
+    if wire::left(s, e) < 24 {
+        return Read::No(Fault::Cut, at);
+    }
+    counted_at(s, e + 24, i)
+}
+
+// Word w of element e of rule k, which starts at a place.
+fn rule_word(s: &[u8], at: usize, product: Product, k: u64, e: u64, w: u64) -> View
+    ensures { λ v. ⌜ Where (rule product k) (now (s .entry)) at (ruleWord k e w product at) v × Inside v (length (now (s .entry))) ⌝ }
+{
+    let c = elements_of(s, at, k);
+    let Read::Got(n, p) = c else {
+        return View::No(Fault::Cut, at);
+    };
+    if n <= e {
+        return View::No(Fault::Absent, 1);
+    }
+    let q = element_start(s, p, product, e);
+    element_word(s, q, product, e, w)
+}
+
+// Word w of element e of rule k of a sound deck.
+fn word_of(s: &[u8], product: Product, k: u64, e: u64, w: u64) -> View
+    ensures { λ v. ⌜ Finds product (now (s .entry)) k (ruleWord k e w product) v × Inside v (length (now (s .entry))) ⌝ }
+{
+    let at = start_of(s, product, k);
+    rule_word(s, at, product, k, e, w)
+}
+
+// Word w of element e of rule k: where its units stand and how many bytes they are.
+pub fn find_word(edition: u64, s: &[u8], k: u64, e: u64, w: u64) -> View
+    ensures { λ v. ⌜ (v ≡ wordView edition k e w (now (s .entry))) × Inside v (length (now (s .entry))) ⌝ }
+{
+    let d = kind::edition_of(edition);
+    let Edition::Of(product) = d else {
+        return View::No(Fault::Edition, 0);
+    };
+    let c = deck::pass(edition, s);
+    match c {
+        Scan::No(f, p) => View::No(f, p),
+        Scan::Is(n, _) => {
+            if n <= k {
+                return View::No(Fault::Absent, 0);
+            }
+            word_of(s, product, k, e, w)
+        }
+    }
+}
+
+// That word as a part of the deck's bytes.
+pub fn word(edition: u64, s: &[u8], k: u64, e: u64, w: u64) -> &[u8]
+    ensures { λ r. ⌜ now r ≡ shown (wordView edition k e w (now (s .entry))) (now (s .entry)) ⌝ }
+{
+    let v = find_word(edition, s, k, e, w);
+    part(s, v)
+}
+
+// The number and place of that view.
+pub fn word_place(edition: u64, s: &[u8], k: u64, e: u64, w: u64) -> Outcome
+    ensures { λ r. ⌜ r ≡ placed (wordView edition k e w (now (s .entry))) ⌝ }
+{
+    let v = find_word(edition, s, k, e, w);
+    place_of(v)
+}
+
+// What the fixed fields of a rule are answered as.
 pub enum Fielded {
     Is(Fields),
     No(Fault, usize),
@@ -124,7 +340,7 @@ fn number_at(s: &[u8], at: usize) -> u32
 
 // The fixed fields of rule k of a sound deck.
 fn fields_at(s: &[u8], product: Product, k: u64) -> Fielded
-    ensures { λ v. ⌜ Holds product (now (s .entry)) k v ⌝ }
+    ensures { λ v. ⌜ Finds product (now (s .entry)) k fixedAt v ⌝ }
 {
     let at = start_of(s, product, k);
     if wire::left(s, at) < 4 {

@@ -1,11 +1,11 @@
-// Readers of numbers and constants at a place of a slice.
+// Readers of numbers at a place of a slice, and of a constant that is longer than a number.
 use format::Fault;
 use format::Read;
 ghost use mathlib.Core.Path.{_≡_};
 ghost use Prim.Native.Nat.{_+_, _-_, _*_, _<_, _≤_, _^_};
 ghost use lib.ListN.{length, take, drop};
-ghost use Rattle.format.specs.Number.{value, number, count, fixed, flag, bit};
-ghost use Rattle.format.specs.Seen.{seen, itself, none, judgedCount, judgedFixed};
+ghost use Rattle.format.specs.Number.{value, number, fixed};
+ghost use Rattle.format.specs.Seen.{seen, itself, none};
 
 // The bytes at a place that has them, the lowest first.
 fn one(s: &[u8], at: usize) -> u64
@@ -99,67 +99,6 @@ pub fn u64_at(s: &[u8], at: usize) -> Read
     Read::Got(eight(s, at), at + 8)
 }
 
-// A number that was read, as a count: it must be from low to high.
-fn judged_count(r: Read, at: usize, low: u64, high: u64) -> Read
-    ensures { λ x. ⌜ x ≡ judgedCount at low high r ⌝ }
-{
-    let Read::Got(n, _) = r else {
-        return r;
-    };
-    if n < low {
-        return Read::No(Fault::Count, at);
-    }
-    if high < n {
-        return Read::No(Fault::Count, at);
-    }
-    r
-}
-
-// A count of 2 or 4 bytes.
-pub fn count16_at(s: &[u8], at: usize, low: u64, high: u64) -> Read
-    ensures { λ r. ⌜ r ≡ seen itself (count 2 low high) (now (s .entry)) at ⌝ }
-{
-    judged_count(u16_at(s, at), at, low, high)
-}
-
-pub fn count32_at(s: &[u8], at: usize, low: u64, high: u64) -> Read
-    ensures { λ r. ⌜ r ≡ seen itself (count 4 low high) (now (s .entry)) at ⌝ }
-{
-    judged_count(u32_at(s, at), at, low, high)
-}
-
-// A number that was read, as a constant: it must be v.
-fn judged_fixed(r: Read, at: usize, v: u64, fault: Fault) -> Read
-    ensures { λ x. ⌜ x ≡ judgedFixed at v fault r ⌝ }
-{
-    let Read::Got(n, p) = r else {
-        return r;
-    };
-    if n != v {
-        return Read::No(fault, at);
-    }
-    Read::Got(0, p)
-}
-
-// A constant of 2, 3 or 4 bytes.
-pub fn fixed16_at(s: &[u8], at: usize, v: u64, fault: Fault) -> Read
-    ensures { λ r. ⌜ r ≡ seen none (fixed 2 v fault) (now (s .entry)) at ⌝ }
-{
-    judged_fixed(u16_at(s, at), at, v, fault)
-}
-
-pub fn fixed24_at(s: &[u8], at: usize, v: u64, fault: Fault) -> Read
-    ensures { λ r. ⌜ r ≡ seen none (fixed 3 v fault) (now (s .entry)) at ⌝ }
-{
-    judged_fixed(u24_at(s, at), at, v, fault)
-}
-
-pub fn fixed32_at(s: &[u8], at: usize, v: u64) -> Read
-    ensures { λ r. ⌜ r ≡ seen none (fixed 4 v Fault.Field) (now (s .entry)) at ⌝ }
-{
-    judged_fixed(u32_at(s, at), at, v, Fault::Field)
-}
-
 // A constant of 12 bytes, the first eight and the last four.
 pub fn fixed96_at(s: &[u8], at: usize, first: u64, last: u64) -> Read
     ensures { λ r. ⌜ r ≡ seen none (fixed 12 (first + 2 ^ 64 * last) Fault.Field) (now (s .entry)) at ⌝ }
@@ -174,18 +113,4 @@ pub fn fixed96_at(s: &[u8], at: usize, first: u64, last: u64) -> Read
         return Read::No(Fault::Field, at);
     }
     Read::Got(0, at + 12)
-}
-
-// A yes or no: a field of 4 bytes that must hold 0 or 1.
-pub fn flag_at(s: &[u8], at: usize) -> Read
-    ensures { λ r. ⌜ r ≡ seen bit flag (now (s .entry)) at ⌝ }
-{
-    let r = u32_at(s, at);
-    let Read::Got(x, _) = r else {
-        return r;
-    };
-    if 1 < x {
-        return Read::No(Fault::Field, at);
-    }
-    r
 }

@@ -1,6 +1,6 @@
 use native.Mathlib.Omega.{arith}
-use Rattle.view.specs.View.{nameView, name-absent, name-is}
-use Rattle.view.specs.Asked.{asked-none, asked-refused, asked-got}
+use Rattle.view.specs.View.{nameView}
+use Rattle.view.specs.Asked.{asked-none, asked-refused, asked-absent, asked-is}
 use Rattle.format.specs.Format.{bytes-all}
 use borrow.Author.Needs.{needs}
 use Rattle.view.proofs.find_name.Statement.{statement}
@@ -12,7 +12,7 @@ returns c = (search (needs, asked-none), tt)
 
 returns-2 : tie.Need-returns-2
 unfolding nameView
-returns-2 c = (asked-got _ _ _ _ (bytes-all (c .before .before .before .before .before .before .before .before .before .before .args .s .now) (c .before .before .before .before .before .before .before .before .before .shared-slice-known .given)) (c .before .before .before .before .before .before .before .before .edition-of .ensures) (c .before .before .before .before .before .before .e .given .1) (c .before .before .before .before .pass .ensures) (c .before .before .c2 .given .1) (λ rs m n r. name-absent _ (c .before .before .before .before .before .before .before .before .before .before .args .k) rs m (omega arith)), tt)
+returns-2 c = (asked-absent _ _ _ _ _ (bytes-all (c .before .before .before .before .before .before .before .before .before .before .args .s .now) (c .before .before .before .before .before .before .before .before .before .shared-slice-known .given)) (c .before .before .before .before .before .before .before .before .edition-of .ensures) (c .before .before .before .before .before .before .e .given .1) (c .before .before .before .before .pass .ensures) (c .before .before .c2 .given .1) (omega arith), tt)
 
 returns-3 : tie.Need-returns-3
 unfolding nameView
@@ -20,7 +20,7 @@ returns-3 c = (search (needs, asked-refused), tt)
 
 returns-4 : tie.Need-returns-4
 unfolding nameView
-returns-4 c = (asked-got _ _ _ _ (bytes-all (c .before .before .before .before .before .before .before .before .before .before .before .args .s .now) (c .before .before .before .before .before .before .before .before .before .before .shared-slice-known .given)) (c .before .before .before .before .before .before .before .before .before .edition-of .ensures) (c .before .before .before .before .before .before .before .e .given .1) (c .before .before .before .before .before .pass .ensures) (c .before .before .before .c2 .given .1) (λ rs m n r. name-is _ _ _ rs m (c .name-at .ensures .0) (omega arith) r), c .name-at .ensures .1)
+returns-4 c = (asked-is _ _ _ _ _ (bytes-all (c .before .before .before .before .before .before .before .before .before .before .before .args .s .now) (c .before .before .before .before .before .before .before .before .before .before .shared-slice-known .given)) (c .before .before .before .before .before .before .before .before .before .edition-of .ensures) (c .before .before .before .before .before .before .before .e .given .1) (c .before .before .before .before .before .pass .ensures) (c .before .before .before .c2 .given .1) (omega arith) (c .name-at .ensures .0), c .name-at .ensures .1)
 
 pub find-name-spec : {M : Type 1} → statement M
 find-name-spec =

@@ -1,7 +1,7 @@
 use native.Mathlib.Omega.{arith}
 use Rattle.format.specs.Format.{bytes-all}
-use Rattle.view.specs.Fixed.{fixedFields, fixed-absent, fixed-is}
-use Rattle.view.specs.Asked.{asked-none, asked-refused, asked-got}
+use Rattle.view.specs.Fixed.{fixedFields}
+use Rattle.view.specs.Asked.{asked-none, asked-refused, asked-absent, asked-is}
 use borrow.Author.Needs.{needs}
 use Rattle.view.proofs.fixed.Statement.{statement}
 use Rattle.view.proofs.fixed.Tie as tie
@@ -12,7 +12,7 @@ returns c = search (needs, asked-none)
 
 returns-2 : tie.Need-returns-2
 unfolding fixedFields
-returns-2 c = asked-got _ _ _ _ (bytes-all (c .before .before .before .before .before .before .before .before .before .before .args .s .now) (c .before .before .before .before .before .before .before .before .before .shared-slice-known .given)) (c .before .before .before .before .before .before .before .before .edition-of .ensures) (c .before .before .before .before .before .before .e .given .1) (c .before .before .before .before .pass .ensures) (c .before .before .c2 .given .1) (λ rs m n r. fixed-absent (c .before .before .before .before .before .before .before .before .before .before .args .k) rs m (omega arith))
+returns-2 c = asked-absent _ _ _ _ _ (bytes-all (c .before .before .before .before .before .before .before .before .before .before .args .s .now) (c .before .before .before .before .before .before .before .before .before .shared-slice-known .given)) (c .before .before .before .before .before .before .before .before .edition-of .ensures) (c .before .before .before .before .before .before .e .given .1) (c .before .before .before .before .pass .ensures) (c .before .before .c2 .given .1) (omega arith)
 
 returns-3 : tie.Need-returns-3
 unfolding fixedFields
@@ -20,7 +20,7 @@ returns-3 c = search (needs, asked-refused)
 
 returns-4 : tie.Need-returns-4
 unfolding fixedFields
-returns-4 c = asked-got _ _ _ _ (bytes-all (c .before .before .before .before .before .before .before .before .before .before .before .args .s .now) (c .before .before .before .before .before .before .before .before .before .before .shared-slice-known .given)) (c .before .before .before .before .before .before .before .before .before .edition-of .ensures) (c .before .before .before .before .before .before .before .e .given .1) (c .before .before .before .before .before .pass .ensures) (c .before .before .before .c2 .given .1) (λ rs m n r. fixed-is _ _ _ rs m (c .fields-at .ensures) (omega arith) r)
+returns-4 c = asked-is _ _ _ _ _ (bytes-all (c .before .before .before .before .before .before .before .before .before .before .before .args .s .now) (c .before .before .before .before .before .before .before .before .before .before .shared-slice-known .given)) (c .before .before .before .before .before .before .before .before .before .edition-of .ensures) (c .before .before .before .before .before .before .before .e .given .1) (c .before .before .before .before .before .pass .ensures) (c .before .before .before .c2 .given .1) (omega arith) (c .fields-at .ensures)
 
 pub fixed-spec : {M : Type 1} → statement M
 fixed-spec =

@@ -1,0 +1,10 @@
+use Rattle.format.specs.Seen.{count-is}
+use borrow.Author.Needs.{needs}
+use Rattle.field.proofs.count16_at.Statement.{statement}
+use Rattle.field.proofs.count16_at.Tie as tie
+
+returns : tie.Need-returns
+returns c = search (needs, count-is)
+
+pub count16-at-spec : {M : Type 1} → statement M
+count16-at-spec = tie.close (tie.spec (λ c κs. search needs) (λ c κs. search needs) returns)

@@ -1,0 +1,18 @@
+use Rattle.view.specs.Word.{list-cut, list-short, list-is}
+use borrow.Author.Needs.{needs}
+use Rattle.view.proofs.list_word.Statement.{statement}
+use Rattle.view.proofs.list_word.Tie as tie
+
+returns : tie.Need-returns
+returns c = (search (needs, list-cut), tt)
+
+returns-2 : tie.Need-returns-2
+returns-2 c = (search (needs, list-short), tt)
+
+returns-3 : tie.Need-returns-3
+returns-3 c = (search (needs, list-is), c .word-in .ensures .1)
+
+pub list-word-spec : {M : Type 1} → statement M
+list-word-spec =
+    tie.close
+    (tie.spec (λ c κs. search needs) (λ c. search needs) (λ c. search needs) returns returns-2 (λ c κs. search needs) returns-3)

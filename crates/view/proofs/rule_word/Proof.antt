@@ -1,0 +1,26 @@
+use Rattle.view.specs.Word.{rule-cut, rule-short, rule-is}
+use borrow.Author.Needs.{needs}
+use Rattle.view.proofs.rule_word.Statement.{statement}
+use Rattle.view.proofs.rule_word.Tie as tie
+
+returns : tie.Need-returns
+returns c = (search (needs, rule-cut), tt)
+
+returns-2 : tie.Need-returns-2
+returns-2 c = (search (needs, rule-short), tt)
+
+returns-3 : tie.Need-returns-3
+returns-3 c = (search (needs, rule-is), c .element-word .ensures .1)
+
+pub rule-word-spec : {M : Type 1} → statement M
+rule-word-spec =
+    tie.close
+    (tie.spec
+    (λ c κs. search needs)
+    (λ c. search needs)
+    (λ c. search needs)
+    returns
+    returns-2
+    (λ c κs. search needs)
+    (λ c κs. search needs)
+    returns-3)
