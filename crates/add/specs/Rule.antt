@@ -1,0 +1,261 @@
+-- A rule added at the end: its bytes behind the deck, and the number of rules written over.
+use Prim.Native.Nat.{ℕ, _+_, _/_, _≤_, _<_}
+use native.Mathlib.Omega.{arith}
+use native.Mathlib.Nat.{zero-add}
+use native.Mathlib.Decide.{decLt}
+use mathlib.Core.Path.{_≡_, refl, sym, ap, _∙_}
+use mathlib.Core.Bool.{true, false}
+use mathlib.Core.List.{List, [], _∷_, _++_, append-assoc, append-nil}
+use lib.ListN.{length, take, drop, length-append, length-drop}
+use lib.Seq.{length-take-le, take-add}
+use Rattle.format.specs.declared.Fault.{Fault}
+use Rattle.format.specs.declared.Fault.the-variants as Fault
+use Rattle.format.specs.declared.Outcome.{Outcome}
+use Rattle.format.specs.declared.Outcome.the-variants as Outcome
+use Rattle.format.specs.declared.Read.{Read}
+use Rattle.format.specs.declared.Read.the-variants as Read
+use Rattle.format.specs.Format.{refused, Bytes, pick}
+use Rattle.format.specs.Number.{spelt, length-spelt, bit}
+use Rattle.format.specs.Each.{eachWrite}
+use Rattle.format.specs.Seen.{told, none, told-got, told-no}
+use Rattle.text.specs.Text.{string}
+use Rattle.kind.specs.declared.Product.{Product}
+use Rattle.kind.specs.declared.Product.the-variants.{Studio}
+use Rattle.element.specs.Element.{Element}
+use Rattle.rule.specs.declared.Fields.{Fields}
+use Rattle.rule.specs.Rule.{Rule, placed}
+use Rattle.rule.specs.Parts.{kept, front, back, headBytes, inner, sizeOf}
+use Rattle.deck.specs.Written.{written, written-is, opening, opening-long, before, rules, rules-cons}
+use Rattle.buffer.specs.Laid.{putIn, put-both}
+use Rattle.buffer.specs.Holds.{Holds, holds-start, holds-put}
+use Rattle.locate.specs.Located.{lastOf}
+use Rattle.locate.specs.Steps.{Sound}
+use Rattle.plan.specs.Given.{isText, units, given}
+use Rattle.plan.specs.Element.{first-written}
+use Rattle.plan.specs.Edit.{Plan, become, refuse, addRule, edited, newRule, ifText}
+use Rattle.plan.specs.Found.{MakesAs, Does}
+use Rattle.plan.specs.Makes.{made-no, made-given, made-rules, made-large, made-room, made-is}
+use Rattle.parts.specs.Text.{textBytes, textSize, text-size, text-is, size-none, size-long, size-short}
+use Rattle.parts.specs.Head.{head-long, head-short}
+use Rattle.add.specs.Element.{rules-none, at-given, no-given}
+
+-- ---- the bytes of a new rule
+
+-- Enabled and Unknown2 to Unknown5
+unfoldable pub keptBytes : Fields → List ℕ
+keptBytes f = spelt 4 (bit (f .on)) ++ (spelt 4 (f .unknown2) ++ (spelt 4 (f .unknown3) ++ (spelt 4 (f .unknown4) ++ spelt 4 (f .unknown5))))
+
+-- signature, name, the kept fields
+unfoldable pub frontBytes : List ℕ → Fields → List ℕ
+frontBytes name f = spelt 4 (f .signature) ++ (textBytes name ++ keptBytes f)
+
+-- Data Size, the number of elements, the head, the only element
+unfoldable pub backBytes : ℕ → ℕ → List ℕ → List ℕ
+backBytes i id s = spelt 4 (6 + length (headBytes i) + length s) ++ (spelt 2 1 ++ (headBytes i ++ (spelt 4 id ++ s)))
+
+kept-size : (f : Fields) → length (keptBytes f) ≡ 20
+unfolding keptBytes
+kept-size f = simp (length-append, length-spelt)
+
+front-size : (name : List ℕ) (f : Fields) → length (frontBytes name f) ≡ 24 + length (textBytes name)
+unfolding frontBytes
+front-size name f = omega (arith, length-append (spelt 4 (f .signature)) (textBytes name ++ keptBytes f), length-append (textBytes name) (keptBytes f), length-spelt 4 (f .signature), kept-size f)
+
+back-size : (i id : ℕ) (s : List ℕ) → length (backBytes i id s) ≡ 10 + length (headBytes i) + length s
+unfolding backBytes
+back-size i id s =
+    omega (arith, length-append (spelt 4 (6 + length (headBytes i) + length s)) (spelt 2 1 ++ (headBytes i ++ (spelt 4 id ++ s))), length-append (spelt 2 1) (headBytes i ++ (spelt 4 id ++ s)), length-append (headBytes i) (spelt 4 id ++ s), length-append (spelt 4 id) s, length-spelt 4 (6 + length (headBytes i) + length s), length-spelt 2 1, length-spelt 4 id)
+
+-- they are the parts of the rule as it is written
+front-is : (name : List ℕ) (f : Fields) (x : Element) → textBytes name ≡ string .write (units name) → front (newRule (units name) f x) ≡ frontBytes name f
+unfolding front kept frontBytes keptBytes
+front-is name f x e = rw (← e)
+
+back-is : (i id : ℕ) (s : List ℕ) (x : Element) → placed Studio 0 .write x ≡ spelt 4 id ++ s → back i (x ∷ []) ≡ backBytes i id s
+unfolding back sizeOf inner eachWrite backBytes
+back-is i id s x e =
+    let l : 2 + (length (headBytes i) + length (spelt 4 id ++ s)) ≡ 6 + length (headBytes i) + length s = omega (arith, length-append (spelt 4 id) s, length-spelt 4 id) in
+    rw (append-nil, e, l)
+
+-- ---- as the code puts them
+
+pub text-small : (s : List ℕ) → textSize s ≤ 513
+text-small s =
+    elim (decLt 510 (length s)) [
+      | yes l ↦ omega (arith, size-none s l)
+      | no l ↦ elim (decLt (length s / 2) 255) [
+        | yes h ↦ omega (arith, size-short s (omega arith) (λ e. omega arith))
+        | no h ↦ omega (arith, size-long s (omega arith) (omega arith))
+      ]
+    ]
+
+module _ (d : List ℕ) (at : ℕ) where
+  pub kept-put : (f : Fields) {y₁ y₂ y₃ y₄ y₅ : List ℕ} → y₁ ≡ putIn d at (spelt 4 (bit (f .on))) → y₂ ≡ putIn y₁ (at + 4) (spelt 4 (f .unknown2)) → y₃ ≡ putIn y₂ (at + 8) (spelt 4 (f .unknown3)) → y₄ ≡ putIn y₃ (at + 12) (spelt 4 (f .unknown4)) → y₅ ≡ putIn y₄ (at + 16) (spelt 4 (f .unknown5))
+      → at + 20 ≤ length d → y₅ ≡ putIn d at (keptBytes f)
+  unfolding keptBytes
+  kept-put f e₁ e₂ e₃ e₄ e₅ h =
+      let a = spelt 4 (bit (f .on)) in
+      let b = spelt 4 (f .unknown2) in
+      let c = spelt 4 (f .unknown3) in
+      let g = spelt 4 (f .unknown4) in
+      let i = spelt 4 (f .unknown5) in
+      let la = length-spelt 4 (bit (f .on)) in
+      let lb = length-spelt 4 (f .unknown2) in
+      let lc = length-spelt 4 (f .unknown3) in
+      let lg = length-spelt 4 (f .unknown4) in
+      let li = length-spelt 4 (f .unknown5) in
+      let l₂ = length-append a b in
+      let l₃ = length-append (a ++ b) c in
+      let l₄ = length-append ((a ++ b) ++ c) g in
+      let w₂ = put-both d at a b e₁ e₂ (omega arith) (omega arith) in
+      let w₃ = put-both d at (a ++ b) c w₂ e₃ (omega arith) (omega arith) in
+      let w₄ = put-both d at ((a ++ b) ++ c) g w₃ e₄ (omega arith) (omega arith) in
+      put-both d at (((a ++ b) ++ c) ++ g) i w₄ e₅ (omega arith) (omega arith) ∙ ap (putIn d at) (simp append-assoc)
+
+  pub front-put : (name : List ℕ) (f : Fields) {size : ℕ} {y₁ y₂ y₃ : List ℕ} → y₁ ≡ putIn d at (spelt 4 (f .signature)) → y₂ ≡ putIn y₁ (at + 4) (textBytes name) → size ≡ textSize name → y₃ ≡ putIn y₂ (at + 4 + size) (keptBytes f)
+      → isText name ≡ true → at + 24 + length (textBytes name) ≤ length d → y₃ ≡ putIn d at (frontBytes name f)
+  unfolding frontBytes
+  front-put name f e₁ e₂ z e₃ t h =
+      let a = spelt 4 (f .signature) in
+      let la = length-spelt 4 (f .signature) in
+      let lb = text-size name t in
+      let lc = kept-size f in
+      let l₂ = length-append a (textBytes name) in
+      let w₂ = put-both d at a (textBytes name) e₁ e₂ (omega arith) (omega arith) in
+      put-both d at (a ++ textBytes name) (keptBytes f) w₂ e₃ (omega arith) (omega arith) ∙ ap (putIn d at) (append-assoc a (textBytes name) (keptBytes f))
+
+  pub back-put : (i id : ℕ) (s : List ℕ) {head : ℕ} {y₁ y₂ y₃ y₄ : List ℕ} → head ≡ length (headBytes i) → y₁ ≡ putIn d at (spelt 4 (6 + head + length s)) → y₂ ≡ putIn y₁ (at + 4) (spelt 2 1) → y₃ ≡ putIn y₂ (at + 6) (headBytes i) → y₄ ≡ putIn y₃ (at + 6 + head) (spelt 4 id ++ s)
+      → at + 10 + length (headBytes i) + length s ≤ length d → y₄ ≡ putIn d at (backBytes i id s)
+  unfolding backBytes
+  back-put i id s {head} z e₁ e₂ e₃ e₄ h =
+      let N = 6 + length (headBytes i) + length s in
+      let a = spelt 4 N in
+      let b = spelt 2 1 in
+      let c = headBytes i in
+      let g = spelt 4 id ++ s in
+      let la = length-spelt 4 N in
+      let lb = length-spelt 2 1 in
+      let li = length-spelt 4 id in
+      let lg = length-append (spelt 4 id) s in
+      let l₂ = length-append a b in
+      let l₃ = length-append (a ++ b) c in
+      let w₁ = rw z at e₁ in
+      let w₂ = put-both d at a b w₁ e₂ (omega arith) (omega arith) in
+      let w₃ = put-both d at (a ++ b) c w₂ e₃ (omega arith) (omega arith) in
+      put-both d at ((a ++ b) ++ c) g w₃ e₄ (omega arith) (omega arith) ∙ ap (putIn d at) (simp append-assoc)
+
+pub head-none : {i : ℕ} → i ≡ 0 → (18 ≡ length (headBytes i)) × (18 ≤ 18)
+head-none e = (sym (ap (λ (j : ℕ). length (headBytes j)) e ∙ head-long), omega arith)
+
+pub head-some : {i : ℕ} → (i ≡ 0 → ⊥) → (2 ≡ length (headBytes i)) × (2 ≤ 18)
+head-some {i} h = (sym (head-short i (omega arith)), omega arith)
+
+-- ---- the deck with the rule
+
+-- the bytes of the whole rule
+unfoldable pub ruleBytes : ℕ → List ℕ → Fields → ℕ → List ℕ → List ℕ
+ruleBytes m name f id s = frontBytes name f ++ backBytes m id s
+
+rule-size : (m : ℕ) (name : List ℕ) (f : Fields) (id : ℕ) (s : List ℕ) → length (ruleBytes m name f id s) ≡ 34 + length (textBytes name) + length (headBytes m) + length s
+unfolding ruleBytes
+rule-size m name f id s = omega (arith, length-append (frontBytes name f) (backBytes m id s), front-size name f, back-size m id s)
+
+-- whatever m rules the sound deck in the first n bytes has: the rule with this name, these fields and the element x, whose bytes these are, is added
+unfoldable pub Extends : ℕ → ℕ → List ℕ → Fields → ℕ → List ℕ → List ℕ → Outcome → List ℕ → Type 0
+Extends n m name f id s d r d′ =
+    (p : Product) (rs : List Rule) (x : Element) → Sound p (take n d) rs → n ≤ length d → m ≡ length rs → placed Studio 0 .write x ≡ spelt 4 id ++ s → textBytes name ≡ string .write (units name) → Does n (become (rs ++ (newRule (units name) f x ∷ []))) d r d′
+
+module _ (n m : ℕ) (name : List ℕ) (f : Fields) (id : ℕ) (s d : List ℕ) where
+  added-many : (rs : List Rule) (x : Rule) → length (rs ++ (x ∷ [])) ≡ length rs + 1
+  added-many rs x = length-append rs (x ∷ [])
+
+  added-written : (rs : List Rule) (x : Element) → m ≡ length rs → placed Studio 0 .write x ≡ spelt 4 id ++ s → textBytes name ≡ string .write (units name)
+      → written (rs ++ (newRule (units name) f x ∷ [])) ≡ opening ++ (spelt 2 (m + 1) ++ (rules 0 rs ++ ruleBytes m name f id s))
+  unfolding before ruleBytes
+  added-written rs x em b t =
+      written-is rs (newRule (units name) f x ∷ [])
+      ∙ rw (added-many rs (newRule (units name) f x), ← em, rules-cons, rules-none, append-nil, front-is name f x t, back-is m id s x b) (simp append-assoc)
+
+  deck-parts : {p : Product} (rs : List Rule) → Sound p (take n d) rs → take n d ≡ opening ++ (spelt 2 (length rs) ++ rules 0 rs)
+  unfolding before
+  deck-parts rs o =
+      let i = written-is rs [] in
+      let z : rs ++ [] ≡ rs = append-nil rs in
+      o .is ∙ (rw (z, rules-none, append-nil) at i)
+
+  added-long : {p : Product} (rs : List Rule) → Sound p (take n d) rs → n ≤ length d → length (opening ++ (spelt 2 (m + 1) ++ (rules 0 rs ++ ruleBytes m name f id s))) ≡ n + 34 + length (textBytes name) + length (headBytes m) + length s
+  added-long rs o w =
+      let R = ruleBytes m name f id s in
+      let q = rules 0 rs in
+      omega (arith, length-append opening (spelt 2 (m + 1) ++ (q ++ R)), length-append (spelt 2 (m + 1)) (q ++ R), length-append q R, length-spelt 2 (m + 1), rule-size m name f id s, ap length (deck-parts rs o), length-append opening (spelt 2 (length rs) ++ q), length-append (spelt 2 (length rs)) q, length-spelt 2 (length rs), length-take-le n d w)
+
+  added-holds : {p : Product} (rs : List Rule) {at : ℕ} {y₁ y₂ y₃ : List ℕ} → Sound p (take n d) rs → n ≤ length d → at ≡ n + 24 + length (textBytes name) → n + 34 + length (textBytes name) + length (headBytes m) + length s ≤ length d
+      → y₁ ≡ putIn d n (frontBytes name f) → y₂ ≡ putIn y₁ at (backBytes m id s) → y₃ ≡ putIn y₂ 5 (spelt 2 (m + 1))
+      → Holds y₃ (opening ++ (spelt 2 (m + 1) ++ (rules 0 rs ++ ruleBytes m name f id s))) (n + length (ruleBytes m name f id s)) d
+  unfolding ruleBytes
+  added-holds rs {at} {y₁} {y₂} {y₃} o w ea l e₁ e₂ e₃ =
+      let F = frontBytes name f in
+      let K = backBytes m id s in
+      let R = F ++ K in
+      let lr = rule-size m name f id s in
+      let lf = front-size name f in
+      let lk = back-size m id s in
+      let e₂′ : y₂ ≡ putIn d n R = put-both d n F K e₁ e₂ (omega arith) (omega arith) in
+      let G = take (length R) (drop n d) in
+      let t : take (n + length R) d ≡ take n d ++ (G ++ []) = take-add n (length R) d ∙ rw append-nil in
+      let h₁ = holds-put (take n d) G [] R (holds-start d (n + length R) (omega arith)) t (length-take-le n d w) (length-take-le (length R) (drop n d) (omega (arith, length-drop n d))) e₂′ in
+      let i : take n d ++ (R ++ []) ≡ opening ++ (spelt 2 (length rs) ++ (rules 0 rs ++ R)) = rw (deck-parts rs o, append-nil) (simp append-assoc) in
+      holds-put opening (spelt 2 (length rs)) (rules 0 rs ++ R) (spelt 2 (m + 1)) h₁ i opening-long (length-spelt 2 (length rs) ∙ sym (length-spelt 2 (m + 1))) e₃
+
+  pub extend-rules : m ≡ 256 → Extends n m name f id s d (Outcome.No Fault.Rules 0) d
+  unfolding Extends
+  extend-rules e p rs x o w em b t = made-rules n d refl (omega (arith, added-many rs (newRule (units name) f x)))
+
+  -- size is what a String of the name takes, head the head of the rule
+  module _ {size head : ℕ} where
+    pub extend-large : isText name ≡ true → size ≡ textSize name → head ≡ length (headBytes m) → m < 256 → 60000 < n + 24 + size + 10 + head + length s → Extends n m name f id s d (Outcome.No Fault.Large 0) d
+    unfolding Extends
+    extend-large it z hz l g p rs x o w em b t =
+        made-large n d refl (omega (arith, added-many rs (newRule (units name) f x))) (rw (added-written rs x em b t) (omega (arith, added-long rs o w, text-size name it)))
+
+    pub extend-room : isText name ≡ true → size ≡ textSize name → head ≡ length (headBytes m) → m < 256 → n + 24 + size + 10 + head + length s ≤ 60000 → length d < n + 24 + size + 10 + head + length s → Extends n m name f id s d (Outcome.No Fault.Room 0) d
+    unfolding Extends
+    extend-room it z hz l g v p rs x o w em b t =
+        made-room n d refl (omega (arith, added-many rs (newRule (units name) f x))) (rw (added-written rs x em b t) (omega (arith, added-long rs o w, text-size name it))) (rw (added-written rs x em b t) (omega (arith, added-long rs o w, text-size name it)))
+
+    pub extend-done : {y₁ y₂ y₃ : List ℕ} → isText name ≡ true → size ≡ textSize name → head ≡ length (headBytes m) → m < 256 → n + 24 + size + 10 + head + length s ≤ 60000 → n + 24 + size + 10 + head + length s ≤ length d
+        → y₁ ≡ putIn d n (frontBytes name f) → y₂ ≡ putIn y₁ (n + 24 + size) (backBytes m id s) → y₃ ≡ putIn y₂ 5 (spelt 2 (m + 1)) → Extends n m name f id s d (Outcome.Done (n + 24 + size + 10 + head + length s)) y₃
+    unfolding Extends
+    extend-done it z hz l g v e₁ e₂ e₃ p rs x o w em b t =
+        let lt = text-size name it in
+        let al = added-long rs o w in
+        let lr = rule-size m name f id s in
+        made-is n d (added-holds rs o w (omega arith) (omega arith) e₁ e₂ e₃) refl (sym (added-written rs x em b t)) (omega arith) (omega arith) (omega (arith, added-many rs (newRule (units name) f x))) g
+
+-- ---- what is judged before
+
+pub no-text : (s : List ℕ) (q : Plan) → isText s ≡ false → ifText s q ≡ refuse Fault.Text 0
+unfolding ifText pick
+no-text s q e = rw e
+
+pub if-text : (s : List ℕ) (q : Plan) → isText s ≡ true → ifText s q ≡ q
+unfolding ifText pick
+if-text s q e = rw e
+
+module _ (p : Product) (n m : ℕ) (name : List ℕ) (f : Fields) (id : ℕ) (s d : List ℕ) where
+  pub rule-text : (a : ℕ) → isText name ≡ false → MakesAs p lastOf n m a (addRule name f id s) d (Outcome.No Fault.Text 0) d
+  unfolding MakesAs edited
+  rule-text a e rs o w em ea = made-no n d (no-text name _ e)
+
+  module _ {t : Read} where
+    pub rule-given : (a : ℕ) {c : Fault} {q : ℕ} → isText name ≡ true → t ≡ told 0 none (given p id s) → t ≡ Read.No c q → MakesAs p lastOf n m a (addRule name f id s) d (Outcome.Given c q) d
+    unfolding MakesAs edited
+    rule-given a {c} e g h rs o w em ea =
+        let u = told-no 0 none (given p id s) g h in
+        made-given n d (if-text name _ e ∙ no-given _ (u .is ∙ ap (refused c) (sym (u .ends ∙ zero-add (u .o)))))
+
+    pub rule-done : (r : Outcome) (d′ : List ℕ) (a : ℕ) {v l : ℕ} → Bytes name → Bytes s → isText name ≡ true → t ≡ told 0 none (given p id s) → t ≡ Read.Got v l → Extends n m name f id s d r d′ → MakesAs p lastOf n m a (addRule name f id s) d r d′
+    unfolding MakesAs edited Extends
+    rule-done r d′ a bn bs e g h x rs o w em ea =
+        let u = told-got 0 none (given p id s) g h in
+        rw (if-text name _ e, at-given _ (u .is)) (x p rs (u .x) o w em (first-written p Studio id s (u .x) (u .n) bs (u .is)) (text-is name bn e))

@@ -1,0 +1,43 @@
+use borrow.Author.Tests.{not-true, not-false}
+use native.Mathlib.Omega.{arith}
+use mathlib.Core.Path.{refl, sym, _∙_}
+use Rattle.format.specs.Format.{bytes-all}
+use Rattle.change.specs.Rename.{text-small, rename-text, rename-large, rename-room, rename-done}
+use borrow.Author.Needs.{needs}
+use Rattle.change.proofs.rename_at.Statement.{statement}
+use Rattle.change.proofs.rename_at.Tie as tie
+
+returns : tie.Need-returns
+returns c = λ edition k m b l ee. rename-text edition _ k m _ b _ _ l (sym (c .before .is-text .ensures) ∙ not-true _ (c .if1 .taken))
+
+add-new-2 : tie.Need-add-new-2
+add-new-2 c = omega (arith, text-small (c .before .before .before .before .before .args .name .now), c .text-size .ensures, c .before .before .before .before .before .pre .short)
+
+returns-2 : tie.Need-returns-2
+returns-2 c = λ edition k m b l ee. rename-large edition _ k m _ b _ _ l (bytes-all (c .before .before .before .before .before .before .args .name .now) (c .before .before .before .before .shared-slice-known .given)) (sym (c .before .before .before .is-text .ensures) ∙ not-false _ (c .before .before .if1 .left)) ee (c .before .text-size .ensures) refl (c .if2 .taken)
+
+returns-3 : tie.Need-returns-3
+returns-3 c = λ edition k m b l ee. rename-room edition _ k m _ b _ _ l (bytes-all (c .before .before .before .before .before .before .before .args .name .now) (c .before .before .before .before .before .shared-slice-known .given)) (sym (c .before .before .before .before .is-text .ensures) ∙ not-false _ (c .before .before .before .if1 .left)) ee (c .before .before .text-size .ensures) refl (omega (arith, c .before .if2 .left)) (c .if3 .taken)
+
+returns-4 : tie.Need-returns-4
+returns-4 c = λ edition k m b l ee. rename-done edition _ k m _ b _ _ l (bytes-all (c .before .before .before .before .before .before .before .before .before .before .before .before .before .before .before .args .name .now) (c .before .before .before .before .before .before .before .before .before .before .before .before .before .shared-slice-known .given)) (sym (c .before .before .before .before .before .before .before .before .before .before .before .before .is-text .ensures) ∙ not-false _ (c .before .before .before .before .before .before .before .before .before .before .before .if1 .left)) ee (c .before .before .before .before .before .before .before .before .before .before .text-size .ensures) refl (omega (arith, c .before .before .before .before .before .before .before .before .before .if2 .left)) (omega (arith, c .before .before .before .before .before .before .before .before .if3 .left)) (c .before .before .before .before .before .before .«open» .ensures) (c .before .before .put-text .ensures)
+
+pub rename-at-spec : {M : Type 1} → statement M
+rename-at-spec =
+    tie.close
+    (tie.spec
+    (λ c κs. search needs)
+    returns
+    (λ c κs. search needs)
+    (λ c. search needs)
+    (λ c. search needs)
+    (λ c. search needs)
+    add-new-2
+    returns-2
+    returns-3
+    (λ c. search needs)
+    (λ c κs. search needs)
+    (λ c. search needs)
+    (λ c κs. search needs)
+    (λ c. search needs)
+    returns-4)

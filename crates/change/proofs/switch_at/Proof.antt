@@ -1,0 +1,15 @@
+use native.Mathlib.Omega.{arith}
+use Rattle.change.specs.Switch.{switch-absent, switch-done}
+use borrow.Author.Needs.{needs}
+use Rattle.change.proofs.switch_at.Statement.{statement}
+use Rattle.change.proofs.switch_at.Tie as tie
+
+returns : tie.Need-returns
+returns c = λ edition. switch-absent edition _ _ _ _ _ _ _ (c .if1 .taken)
+
+returns-2 : tie.Need-returns-2
+returns-2 c = λ edition. switch-done edition _ _ _ _ _ _ _ _ (omega arith) (c .before .before .before .before .name-end .ensures) (c .before .before .put-flag .ensures)
+
+pub switch-at-spec : {M : Type 1} → statement M
+switch-at-spec =
+    tie.close (tie.spec returns (λ c κs. search needs) (λ c κs. search needs) (λ c. search needs) returns-2)

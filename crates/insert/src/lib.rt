@@ -1,0 +1,198 @@
+// A copy of a rule of a second deck, inserted at a place of a deck.
+use format::Fault;
+use format::Outcome;
+use locate::Spot;
+ghost use mathlib.Core.Path.{_≡_};
+ghost use Prim.Native.Nat.{_+_, _-_, _≤_, _<_};
+ghost use lib.ListN.{length};
+ghost use Rattle.rule.specs.Parts.{headBytes};
+ghost use Rattle.buffer.specs.Laid.{putIn};
+ghost use Rattle.plan.specs.Edit.{insert};
+ghost use Rattle.plan.specs.Found.{Edits, Makes, Within};
+ghost use Rattle.insert.specs.Copy.{copied, copySize};
+ghost use Rattle.insert.specs.Place.{lost, Opens};
+ghost use Rattle.insert.specs.Insert.{Sizes, Copied, Inserts, Copies, Copyable};
+
+// How many bytes the head of rule i has.
+fn head_size(i: u64) -> usize
+    ensures { λ r. ⌜ (r ≡ length (headBytes i)) × (r ≤ 18) ⌝ }
+{
+    if i == 0 {
+        return 18;
+    }
+    2
+}
+
+// How many bytes the rules from place k of m lose where a rule comes before them: the old first rule gives its long head up.
+fn lost_at(k: u64, m: u64) -> usize
+    ensures { λ r. ⌜ (r ≡ lost k m) × (r ≤ 16) ⌝ }
+{
+    if k != 0 {
+        return 0;
+    }
+    if m == 0 {
+        return 0;
+    }
+    16
+}
+
+// A rule at a place of the buffer, with the head of place i: what stands before Data Size, the number of its elements and the elements are given.
+fn put_rule(buf: &mut [u8], at: usize, front: &[u8], count: &[u8], els: &[u8], i: u64)
+    requires { ⌜ (length (now count) ≡ 2) × (at + copySize (now front) (now els) i ≤ length (now buf)) ⌝ }
+    ensures { λ _. ⌜ now (buf .exit) ≡ putIn (now (buf .entry)) at (copied (now (front .entry)) (now (count .entry)) (now (els .entry)) i) ⌝ }
+{
+    let size = at + front.len();
+    let head = size + 6;
+    let long = head_size(i);
+    buffer::put_bytes(buf, at, front);
+    buffer::put_number(buf, size, 4, (2 + long + els.len()) as u64);
+    buffer::put_bytes(buf, size + 4, count);
+    parts::put_head(buf, head, i);
+    buffer::put_bytes(buf, head + long, els);
+}
+
+// The rule at place 0, which ends at b, gives its long head up, and a gap of len bytes opens before it.
+fn open_first(buf: &mut [u8], n: usize, m: u64, b: usize, len: usize)
+    requires { ⌜ (0 < m) × (b ≤ n) × (n ≤ 60000) × (len ≤ 200000) ⌝ }
+    ensures { λ _. ⌜ Opens n 0 m 7 b len (now (buf .entry)) (now (buf .exit)) ⌝ }
+{
+    let e = locate::name_end(buf, 7);
+    if b < e {
+        return;
+    }
+    if b - e < 44 {
+        return;
+    }
+    let head = e + 26;
+    buffer::open(buf, n, head, head + 18, len + 2);
+    buffer::move_up(buf, 7, head + len, len);
+    buffer::put_number(buf, e + 20 + len, 4, (b - e - 40) as u64);
+    parts::put_head(buf, head + len, 1);
+}
+
+// A gap of len bytes opens at place k of m, which starts at a, for a rule; what stands behind it becomes what it is behind a rule.
+fn open_place(buf: &mut [u8], n: usize, k: u64, m: u64, a: usize, b: usize, len: usize)
+    requires { ⌜ (b ≤ n) × (n ≤ 60000) × (len ≤ 200000) ⌝ }
+    ensures { λ _. ⌜ Opens n k m a b len (now (buf .entry)) (now (buf .exit)) ⌝ }
+{
+    if lost_at(k, m) == 0 {
+        buffer::open(buf, n, a, a, len);
+        return;
+    }
+    open_first(buf, n, m, b, len);
+}
+
+// The rule of these parts at place k of m, which starts at a; the buffer has room for it.
+fn put_copy(
+    buf: &mut [u8],
+    n: usize,
+    k: u64,
+    m: u64,
+    a: usize,
+    b: usize,
+    len: usize,
+    front: &[u8],
+    count: &[u8],
+    els: &[u8],
+)
+    requires { ⌜ Sizes n k m a b (now buf) (now front) (now count) (now els) × (len ≡ copySize (now front) (now els) k) × (len ≤ 200000) × (n + (len - lost k m) ≤ length (now buf)) ⌝ }
+    ensures { λ _. ⌜ Copied n k m a b (now (front .entry)) (now (count .entry)) (now (els .entry)) (now (buf .entry)) (now (buf .exit)) ⌝ }
+{
+    open_place(buf, n, k, m, a, b, len);
+    put_rule(buf, a, front, count, els, k);
+    buffer::put_number(buf, 5, 2, m + 1);
+}
+
+// The same, with 18, 19, 20 judged.
+fn copy_rule(
+    buf: &mut [u8],
+    n: usize,
+    k: u64,
+    m: u64,
+    a: usize,
+    b: usize,
+    front: &[u8],
+    count: &[u8],
+    els: &[u8],
+) -> Outcome
+    requires { ⌜ Sizes n k m a b (now buf) (now front) (now count) (now els) ⌝ }
+    ensures { λ r. ⌜ Inserts n k m a b (now (front .entry)) (now (count .entry)) (now (els .entry)) (now (buf .entry)) r (now (buf .exit)) ⌝ }
+{
+    if 256 <= m {
+        return Outcome::No(Fault::Rules, 0);
+    }
+    let len = front.len() + 6 + head_size(k) + els.len();
+    let new = n + (len - lost_at(k, m));
+    if 60000 < new {
+        return Outcome::No(Fault::Large, 0);
+    }
+    if buf.len() < new {
+        return Outcome::No(Fault::Room, 0);
+    }
+    put_copy(buf, n, k, m, a, b, len, front, count, els);
+    Outcome::Done(new)
+}
+
+// A copy of rule j of q of the second deck, which stands from c to e there.
+fn insert_copy(
+    buf: &mut [u8],
+    n: usize,
+    k: u64,
+    m: u64,
+    a: usize,
+    b: usize,
+    second: &[u8],
+    j: u64,
+    q: u64,
+    c: usize,
+    e: usize,
+) -> Outcome
+    requires { ⌜ Within n m a b (now buf) × (a + lost k m ≤ n) × Copyable (now second) j q c e ⌝ }
+    ensures { λ r. ⌜ Copies n k m a b (now (second .entry)) j q c e (now (buf .entry)) r (now (buf .exit)) ⌝ }
+{
+    if m < k {
+        return Outcome::No(Fault::Absent, 0);
+    }
+    if q <= j {
+        return Outcome::No(Fault::Absent, 1);
+    }
+    let size = locate::name_end(second, c) + 20;
+    let first = size + 6 + head_size(j);
+    let front = &second[c..size];
+    let count = &second[size + 4..size + 6];
+    let els = &second[first..e];
+    copy_rule(buf, n, k, m, a, b, front, count, els)
+}
+
+// The second deck judged, then the rest.
+fn insert_from(
+    edition: u64,
+    buf: &mut [u8],
+    n: usize,
+    k: u64,
+    m: u64,
+    a: usize,
+    b: usize,
+    second: &[u8],
+    j: u64,
+) -> Outcome
+    requires { ⌜ Within n m a b (now buf) × (a + lost k m ≤ n) ⌝ }
+    ensures { λ r. ⌜ Makes edition (λ rs. k) n m a b (insert k (now (second .entry)) j) (now (buf .entry)) r (now (buf .exit)) ⌝ }
+{
+    let f = locate::locate(edition, second, j);
+    match f {
+        Spot::No(c, p) => Outcome::Given(c, p),
+        Spot::Is(q, c, e) => insert_copy(buf, n, k, m, a, b, second, j, q, c, e),
+    }
+}
+
+// A copy of rule j of a second deck is inserted at place k.
+pub fn insert(edition: u64, buf: &mut [u8], n: usize, k: u64, second: &[u8], j: u64) -> Outcome
+    ensures { λ r. ⌜ Edits edition n (insert k (now (second .entry)) j) (now (buf .entry)) r (now (buf .exit)) ⌝ }
+{
+    let f = plan::find(edition, buf, n, k);
+    match f {
+        Spot::No(c, p) => Outcome::No(c, p),
+        Spot::Is(m, a, b) => insert_from(edition, buf, n, k, m, a, b, second, j),
+    }
+}

@@ -1,0 +1,31 @@
+use Rattle.plan.specs.Given.{given-none, given-stop, given-over, given-is}
+use borrow.Author.Needs.{needs}
+use Rattle.plan.proofs.given_element.Statement.{statement}
+use Rattle.plan.proofs.given_element.Tie as tie
+
+returns : tie.Need-returns
+returns c = search (needs, given-none, given-stop, given-over, given-is)
+
+returns-2 : tie.Need-returns-2
+returns-2 c = search (needs, given-none, given-stop, given-over, given-is)
+
+returns-3 : tie.Need-returns-3
+returns-3 c = search (needs, given-none, given-stop, given-over, given-is)
+
+returns-4 : tie.Need-returns-4
+returns-4 c = search (needs, given-none, given-stop, given-over, given-is)
+
+pub given-element-spec : {M : Type 1} → statement M
+given-element-spec =
+    tie.close
+    (tie.spec
+    (λ c κs. search needs)
+    (λ c. search needs)
+    (λ c. search needs)
+    (λ c κs. search needs)
+    (λ c. search needs)
+    (λ c. search needs)
+    returns
+    returns-2
+    returns-3
+    returns-4)

@@ -1,0 +1,150 @@
+-- An edit is a plan: the edited list of rules, or a refusal. Document 01, "Edits and building".
+use Prim.Native.Nat.{ℕ, _-_, max}
+use mathlib.Core.Bool.{Bool}
+use mathlib.Core.List.{List, [], _∷_, _++_}
+use lib.Dec.{leb, ltb}
+use lib.ListN.{length, take, drop}
+use Rattle.format.specs.declared.Fault.{Fault}
+use Rattle.format.specs.declared.Fault.the-variants as Fault
+use Rattle.format.specs.declared.Outcome.{Outcome}
+use Rattle.format.specs.declared.Outcome.the-variants as Outcome
+use Rattle.format.specs.Format.{Answer, got, refused, pick}
+use Rattle.kind.specs.declared.Product.{Product}
+use Rattle.kind.specs.declared.Edition.{Edition}
+use Rattle.kind.specs.declared.Edition.the-variants as Edition
+use Rattle.kind.specs.Kinds.{editionOf}
+use Rattle.element.specs.Data.{plain, words, sizes, span}
+use Rattle.element.specs.Element.{Element}
+use Rattle.rule.specs.declared.Fields.{Fields}
+use Rattle.rule.specs.Rule.{Rule}
+use Rattle.deck.specs.Deck.{readAs}
+use Rattle.deck.specs.Written.{written}
+use Rattle.buffer.specs.Laid.{laid}
+use Rattle.plan.specs.Given.{isText, units, given}
+
+-- the seven edits, and what each is asked with: numbers of rules, texts as their bytes, the second deck, an element as identifier and data
+pub data Edit : Type 0 where
+  switch : ℕ → Bool → Edit
+  rename : ℕ → List ℕ → Edit
+  remove : ℕ → Edit
+  insert : ℕ → List ℕ → ℕ → Edit
+  addRule : List ℕ → Fields → ℕ → List ℕ → Edit
+  addElement : ℕ → List ℕ → Edit
+  addWord : List ℕ → Edit
+
+-- what an edit comes to: another list of rules, a fault with its place, or a fault in a second deck or in given element data
+pub data Plan : Type 0 where
+  become : List Rule → Plan
+  refuse : Fault → ℕ → Plan
+  refuseGiven : Fault → ℕ → Plan
+
+-- ---- a rule with one thing changed
+abbrev pub switched : Bool → Rule → Rule
+switched b r = record { signature = r .signature; name = r .name; on = b; unknown2 = r .unknown2; unknown3 = r .unknown3; unknown4 = r .unknown4; unknown5 = r .unknown5; elements = r .elements }
+
+abbrev pub renamed : List ℕ → Rule → Rule
+renamed us r = record { signature = r .signature; name = us; on = r .on; unknown2 = r .unknown2; unknown3 = r .unknown3; unknown4 = r .unknown4; unknown5 = r .unknown5; elements = r .elements }
+
+abbrev pub holding : List Element → Rule → Rule
+holding xs r = record { signature = r .signature; name = r .name; on = r .on; unknown2 = r .unknown2; unknown3 = r .unknown3; unknown4 = r .unknown4; unknown5 = r .unknown5; elements = xs }
+
+-- "a rule with its name, its fixed fields and first element"
+abbrev pub newRule : List ℕ → Fields → Element → Rule
+newRule us f x = record { signature = f .signature; name = us; on = f .on; unknown2 = f .unknown2; unknown3 = f .unknown3; unknown4 = f .unknown4; unknown5 = f .unknown5; elements = x ∷ [] }
+
+-- ---- what is judged on the way
+
+-- the rules from k on: "no rule k" is 16 at 0
+unfoldable pub atRule : List Rule → (Rule → List Rule → Plan) → Plan
+atRule [] f = refuse Fault.Absent 0
+atRule (r ∷ later) f = f r later
+
+-- the rules of the second deck from j on: "no rule j" is 16 at 1
+unfoldable pub atCopy : List Rule → (Rule → Plan) → Plan
+atCopy [] f = refuse Fault.Absent 1
+atCopy (r ∷ later) f = f r
+
+-- a second deck: "34 to 45"
+unfoldable pub atSecond : Answer (List Rule) → (List Rule → Plan) → Plan
+atSecond (got rs n) f = f rs
+atSecond (refused c q) f = refuseGiven c q
+
+-- the last rule: "no rule" is 22
+unfoldable pub atLast : List Rule → (Rule → Plan) → Plan
+atLast [] f = refuse Fault.Last 0
+atLast (r ∷ later) f = f r
+
+-- the last element: "no word list" is 22
+unfoldable pub atList : List Element → (ℕ → List (List ℕ) → Plan) → Plan
+atList [] f = refuse Fault.Last 0
+atList ((id, plain) ∷ later) f = refuse Fault.Last 0
+atList ((id, words ws) ∷ later) f = f id ws
+atList ((id, sizes a b) ∷ later) f = refuse Fault.Last 0
+atList ((id, span a b) ∷ later) f = refuse Fault.Last 0
+
+-- "rule has 64 elements, or list has 64 words": 21
+unfoldable pub unlessFull : ℕ → Plan → Plan
+unlessFull n q = pick (ltb n 64) q (refuse Fault.Full 0)
+
+-- a new name or word: 17
+unfoldable pub ifText : List ℕ → Plan → Plan
+ifText s q = pick (isText s) q (refuse Fault.Text 0)
+
+-- given element data: "34 to 45"
+unfoldable pub atGiven : Answer Element → (Element → Plan) → Plan
+atGiven (got x n) f = f x
+atGiven (refused c q) f = refuseGiven c q
+
+-- ---- the edits
+unfoldable pub edited : Product → Edit → List Rule → Plan
+edited p (switch k on) rs = atRule (drop k rs) λ r later. become (take k rs ++ (switched on r ∷ later))
+edited p (rename k name) rs = atRule (drop k rs) λ r later. ifText name (become (take k rs ++ (renamed (units name) r ∷ later)))
+edited p (remove k) rs = atRule (drop k rs) λ r later. become (take k rs ++ later)
+-- "A place to insert at is 0 to the number of rules"
+edited p (insert k second j) rs =
+    atSecond (readAs p second) λ qs. pick (leb k (length rs)) (atCopy (drop j qs) λ q. become (take k rs ++ (q ∷ drop k rs))) (refuse Fault.Absent 0)
+edited p (addRule name f id s) rs = ifText name (atGiven (given p id s) λ x. become (rs ++ (newRule (units name) f x ∷ [])))
+edited p (addElement id s) rs =
+    atLast (drop (length rs - 1) rs) λ r. unlessFull (length (r .elements))
+    (atGiven (given p id s) λ x. become (take (length rs - 1) rs ++ (holding (r .elements ++ (x ∷ [])) r ∷ [])))
+edited p (addWord word) rs =
+    atLast (drop (length rs - 1) rs) λ r. atList (drop (length (r .elements) - 1) (r .elements)) λ id ws. unlessFull (length ws)
+    (ifText word (become (take (length rs - 1) rs ++ (holding (take (length (r .elements) - 1) (r .elements) ++ ((id, words (ws ++ (units word ∷ []))) ∷ [])) r ∷ []))))
+
+-- "18, 19, 20": over 256 rules, over 60,000 bytes, longer than the buffer
+unfoldable pub room : ℕ → List Rule → Plan
+room cap rs =
+    pick (leb (length rs) 256)
+    (pick (leb (length (written rs)) 60000)
+    (pick (leb (length (written rs)) cap) (become rs) (refuse Fault.Room 0))
+    (refuse Fault.Large 0)) (refuse Fault.Rules 0)
+
+abbrev pub inRoom : ℕ → Plan → Plan
+inRoom cap (become rs) = room cap rs
+inRoom cap (refuse c q) = refuse c q
+inRoom cap (refuseGiven c q) = refuseGiven c q
+
+-- "2 to 13 on its deck", then the edit, in a buffer of cap bytes
+abbrev pub plan : Product → ℕ → Edit → Answer (List Rule) → Plan
+plan p cap e (got rs n) = inRoom cap (edited p e rs)
+plan p cap e (refused c q) = refuse c q
+
+-- "1, 15": an edit of the deck in the first n bytes of the buffer d
+abbrev pub planBy : Edition → ℕ → List ℕ → Edit → Plan
+planBy (Edition.Of p) n d e = pick (leb n (length d)) (plan p (length d) e (readAs p (take n d))) (refuse Fault.Stated 0)
+planBy Edition.Unknown n d e = refuse Fault.Edition 0
+
+unfoldable pub planned : ℕ → ℕ → List ℕ → Edit → Plan
+planned edition n d e = planBy (editionOf edition) n d e
+
+-- ---- what a plan answers, "On success the place answered is the new length", and leaves of the buffer:
+-- "Where a deck shrinks, the bytes from new to old length become zero. Bytes beyond the larger of the two stay"; a refusal "changes nothing"
+unfoldable pub says : Plan → Outcome
+says (become rs) = Outcome.Done (length (written rs))
+says (refuse c q) = Outcome.No c q
+says (refuseGiven c q) = Outcome.Given c q
+
+unfoldable pub leaves : ℕ → List ℕ → Plan → List ℕ
+leaves n d (become rs) = laid (written rs) (max n (length (written rs))) d
+leaves n d (refuse c q) = d
+leaves n d (refuseGiven c q) = d

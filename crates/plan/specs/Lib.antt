@@ -1,0 +1,5 @@
+pub mod Given
+pub mod Element
+pub mod Edit
+pub mod Found
+pub mod Makes

@@ -1,0 +1,102 @@
+-- How an edit is shown to do its plan: from a sound deck in a buffer, through what is done to the buffer, to the deck of the edited list.
+use Prim.Native.Nat.{ℕ, _+_, _≤_, _<_, max}
+use native.Mathlib.Omega.{arith}
+use mathlib.Core.Path.{_≡_, refl, sym, ap, ap₂, _∙_}
+use mathlib.Core.List.{List, [], _∷_, _++_, append-assoc}
+use lib.ListN.{length, take, drop, length-append, take-append-drop, drop-of-length-le}
+use lib.Seq.{drop-at, length-take-le}
+use borrow.Author.Tests.{le-leb, lt-leb}
+use Rattle.format.specs.declared.Fault.{Fault}
+use Rattle.format.specs.declared.Fault.the-variants as Fault
+use Rattle.format.specs.declared.Outcome.{Outcome}
+use Rattle.format.specs.declared.Outcome.the-variants as Outcome
+use Rattle.format.specs.Format.{pick}
+use Rattle.kind.specs.declared.Product.{Product}
+use Rattle.rule.specs.Rule.{Rule}
+use Rattle.rule.specs.Parts.{front, back}
+use Rattle.deck.specs.Written.{written, written-is, before, rules, rules-cons, startOf}
+use Rattle.deck.specs.Deck.{deck-small}
+use Rattle.buffer.specs.Laid.{laid}
+use Rattle.buffer.specs.Holds.{Holds}
+use Rattle.locate.specs.Steps.{Sound, Here, Stands}
+use Rattle.plan.specs.Edit.{Plan, become, refuse, refuseGiven, atRule, room, says, leaves}
+use Rattle.plan.specs.Found.{Does}
+
+-- ---- the deck that is found
+
+module _ (n : ℕ) (d : List ℕ) {p : Product} {rs : List Rule} where
+  -- a rule of the deck stands in the buffer where it stands in the deck
+  pub here-in : {k : ℕ} (h : Here p (take n d) rs k) → Stands d (startOf rs k) p k (h .r)
+  unfolding Stands
+  here-in {k} h =
+      let L = rules (k + 1) (h .later) in
+      let P = before (length rs) (take k rs) in
+      let w : d ≡ P ++ (front (h .r) ++ (back k (h .r .elements) ++ (L ++ drop n d))) = sym (take-append-drop n d) ∙ ap (λ (z : List ℕ). z ++ drop n d) (h .is) ∙ simp append-assoc in
+      (h .fits, (L ++ drop n d, ap (drop (startOf rs k)) w ∙ drop-at P _ (startOf rs k) (h .starts)))
+
+  -- n is its length, and it is of at most 256 rules
+  pub sound-length : n ≤ length d → Sound p (take n d) rs → length (written rs) ≡ n
+  sound-length l o = sym (ap length (o .is)) ∙ length-take-le n d l
+
+  pub sound-small : Sound p (take n d) rs → length rs ≤ 256
+  sound-small o = deck-small p rs (o .fit)
+
+  pub sound-short : n ≤ length d → Sound p (take n d) rs → n ≤ 60000
+  sound-short l o = omega (arith, o .short, length-take-le n d l)
+
+-- ---- the deck of the edited list: rule k becomes x
+pub replaced-long : (rs later : List Rule) (k : ℕ) (r x : Rule) → drop k rs ≡ r ∷ later → length (take k rs ++ (x ∷ later)) ≡ length rs
+replaced-long rs later k r x e =
+    omega (arith, length-append (take k rs) (x ∷ later), length-append (take k rs) (drop k rs), ap length e, ap length (take-append-drop k rs))
+
+pub written-here : (rs later : List Rule) (k : ℕ) (r x : Rule) → drop k rs ≡ r ∷ later → k < length rs
+    → written (take k rs ++ (x ∷ later)) ≡ before (length rs) (take k rs) ++ (front x ++ (back k (x .elements) ++ rules (k + 1) later))
+written-here rs later k r x e l =
+    let t : length (take k rs) ≡ k = length-take-le k rs (omega arith) in
+    let n = replaced-long rs later k r x e in
+    rw (n, t, rules-cons) at (written-is (take k rs) (x ∷ later))
+
+-- ---- what was judged
+pub at-rule : (rs : List Rule) (k : ℕ) {r : Rule} {later : List Rule} (f : Rule → List Rule → Plan) → drop k rs ≡ r ∷ later → atRule (drop k rs) f ≡ f r later
+unfolding atRule
+at-rule rs k f e = rw e
+
+pub no-rule : (rs : List Rule) (k : ℕ) (f : Rule → List Rule → Plan) → length rs ≤ k → atRule (drop k rs) f ≡ refuse Fault.Absent 0
+unfolding atRule
+no-rule rs k f l = let e : drop k rs ≡ [] = drop-of-length-le rs {i = k} l in rw e
+
+-- ---- what a plan comes to
+module _ (n : ℕ) (d : List ℕ) {q : Plan} where
+  -- refused before the edit
+  pub made-no : {c : Fault} {o : ℕ} → q ≡ refuse c o → Does n q d (Outcome.No c o) d
+  unfolding says leaves
+  made-no e = rw e (refl, refl)
+
+  pub made-given : {c : Fault} {o : ℕ} → q ≡ refuseGiven c o → Does n q d (Outcome.Given c o) d
+  unfolding says leaves
+  made-given e = rw e (refl, refl)
+
+  -- the edited list
+  module _ {rs : List Rule} where
+    -- 18, 19, 20
+    pub made-rules : q ≡ become rs → 256 < length rs → Does n q d (Outcome.No Fault.Rules 0) d
+    unfolding says leaves room pick
+    made-rules e l = rw (e, lt-leb (length rs) 256 l) (refl, refl)
+
+    pub made-large : q ≡ become rs → length rs ≤ 256 → 60000 < length (written rs) → Does n q d (Outcome.No Fault.Large 0) d
+    unfolding says leaves room pick
+    made-large e l m = rw (e, le-leb (length rs) 256 l, lt-leb (length (written rs)) 60000 m) (refl, refl)
+
+    pub made-room : q ≡ become rs → length rs ≤ 256 → length (written rs) ≤ 60000 → length d < length (written rs) → Does n q d (Outcome.No Fault.Room 0) d
+    unfolding says leaves room pick
+    made-room e l m r = rw (e, le-leb (length rs) 256 l, le-leb (length (written rs)) 60000 m, lt-leb (length (written rs)) (length d) r) (refl, refl)
+
+    -- done: the buffer y holds the deck of the edited list, len bytes long
+    pub made-is : {y Y : List ℕ} {hi len : ℕ} → Holds y Y hi d → q ≡ become rs → Y ≡ written rs → length Y ≡ len → hi ≡ max n len → length rs ≤ 256 → len ≤ 60000 → Does n q d (Outcome.Done len) y
+    unfolding says leaves room pick
+    made-is {y} {Y} {hi} {len} h e w s i l m =
+        let z : length (written rs) ≡ len = sym (ap length w) ∙ s in
+        let v = h .room in
+        let g : length (written rs) ≤ length d = omega (arith, h .short) in
+        rw (e, le-leb (length rs) 256 l, le-leb (length (written rs)) 60000 (omega arith), le-leb (length (written rs)) (length d) g)
+        (ap Outcome.Done (sym z), h .is ∙ ap₂ (λ (a : List ℕ) (b : ℕ). laid a b d) w (i ∙ ap (max n) (sym z)))

@@ -1,0 +1,1 @@
+// Runs of edits: see specs/. There is no code here.
