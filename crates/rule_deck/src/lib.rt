@@ -1,9 +1,18 @@
 // What the C products call: numbers and byte slices in, one number out, code plus 256 times place.
 use format::Outcome;
+use rule::Fields;
 ghost use mathlib.Core.Path.{_≡_};
 ghost use Prim.Native.Nat.{_^_, _<_};
+ghost use lib.ListN.{length};
 ghost use Rattle.format.specs.Fault.{placeOf, packed};
+ghost use Rattle.kind.specs.Kinds.{editionOf};
 ghost use Rattle.deck.specs.Deck.{answered, readDeck};
+ghost use Rattle.tables.specs.Tables.{readSays, rulesAfter, elementsAfter};
+ghost use Rattle.view.specs.View.{placed, nameView};
+ghost use Rattle.view.specs.Word.{wordView};
+ghost use Rattle.plan.specs.Edit.{switch, rename, remove, insert, addRule, addElement, addWord};
+ghost use Rattle.start.specs.Start.{startSays, startLeaves};
+ghost use Rattle.rule_deck.specs.Sent.{Sends, fieldsOf};
 
 fn pack(o: Outcome) -> u64
     requires { ⌜ placeOf o < 2 ^ 48 ⌝ }
@@ -22,4 +31,145 @@ pub extern "C" fn rule_deck_check(edition: u64, deck: &[u8]) -> u64
     ensures { λ r. ⌜ r ≡ packed (answered (readDeck edition (now (deck .entry)))) ⌝ }
 {
     pack(deck::check(edition, deck))
+}
+
+// Reads a deck into two tables.
+#[no_mangle]
+pub extern "C" fn rule_deck_read(
+    edition: u64,
+    deck: &[u8],
+    rules: &mut [u32],
+    elements: &mut [u32],
+) -> u64
+    ensures { λ r. ⌜ (r ≡ packed (readSays (editionOf edition) (length (now (rules .entry))) (length (now (elements .entry))) (now (deck .entry)))) × ((now (rules .exit) ≡ rulesAfter (editionOf edition) (now (deck .entry)) (now (rules .entry)) (now (elements .entry))) × (now (elements .exit) ≡ elementsAfter (editionOf edition) (now (deck .entry)) (now (rules .entry)) (now (elements .entry)))) ⌝ }
+{
+    pack(tables::read(edition, deck, rules, elements))
+}
+
+// Where the units of the name of rule k start.
+#[no_mangle]
+pub extern "C" fn rule_deck_name(edition: u64, deck: &[u8], k: u64) -> u64
+    ensures { λ r. ⌜ r ≡ packed (placed (nameView edition k (now (deck .entry)))) ⌝ }
+{
+    let v = view::find_name(edition, deck, k);
+    pack(view::place_of(v))
+}
+
+// Where the units of word w of element e of rule k start.
+#[no_mangle]
+pub extern "C" fn rule_deck_word(edition: u64, deck: &[u8], k: u64, e: u64, w: u64) -> u64
+    ensures { λ r. ⌜ r ≡ packed (placed (wordView edition k e w (now (deck .entry)))) ⌝ }
+{
+    let v = view::find_word(edition, deck, k, e, w);
+    pack(view::place_of(v))
+}
+
+// Starts an empty deck.
+#[no_mangle]
+pub extern "C" fn rule_deck_start(buf: &mut [u8]) -> u64
+    ensures { λ r. ⌜ (r ≡ packed (startSays (length (now (buf .entry))))) × (now (buf .exit) ≡ startLeaves (now (buf .entry))) ⌝ }
+{
+    pack(start::start(buf))
+}
+
+// Switches rule k on or off.
+#[no_mangle]
+pub extern "C" fn rule_deck_switch(
+    edition: u64,
+    buf: &mut [u8],
+    length: u64,
+    k: u64,
+    on: bool,
+) -> u64
+    ensures { λ r. ⌜ Sends edition length (switch k on) (now (buf .entry)) r (now (buf .exit)) ⌝ }
+{
+    pack(change::switch(edition, buf, length as usize, k, on))
+}
+
+// Renames rule k.
+#[no_mangle]
+pub extern "C" fn rule_deck_rename(
+    edition: u64,
+    buf: &mut [u8],
+    length: u64,
+    k: u64,
+    name: &[u8],
+) -> u64
+    ensures { λ r. ⌜ Sends edition length (rename k (now (name .entry))) (now (buf .entry)) r (now (buf .exit)) ⌝ }
+{
+    pack(change::rename(edition, buf, length as usize, k, name))
+}
+
+// Removes rule k.
+#[no_mangle]
+pub extern "C" fn rule_deck_remove(edition: u64, buf: &mut [u8], length: u64, k: u64) -> u64
+    ensures { λ r. ⌜ Sends edition length (remove k) (now (buf .entry)) r (now (buf .exit)) ⌝ }
+{
+    pack(remove::remove(edition, buf, length as usize, k))
+}
+
+// Inserts at place k a copy of rule j of a second deck.
+#[no_mangle]
+pub extern "C" fn rule_deck_insert(
+    edition: u64,
+    buf: &mut [u8],
+    length: u64,
+    k: u64,
+    second: &[u8],
+    j: u64,
+) -> u64
+    ensures { λ r. ⌜ Sends edition length (insert k (now (second .entry)) j) (now (buf .entry)) r (now (buf .exit)) ⌝ }
+{
+    pack(insert::insert(edition, buf, length as usize, k, second, j))
+}
+
+// Adds a rule at the end.
+#[no_mangle]
+pub extern "C" fn rule_deck_add_rule(
+    edition: u64,
+    buf: &mut [u8],
+    length: u64,
+    name: &[u8],
+    signature: u32,
+    on: bool,
+    unknown2: u32,
+    unknown3: u32,
+    unknown4: u32,
+    unknown5: u32,
+    identifier: u32,
+    s: &[u8],
+) -> u64
+    ensures { λ r. ⌜ Sends edition length (addRule (now (name .entry)) (fieldsOf signature on unknown2 unknown3 unknown4 unknown5) identifier (now (s .entry))) (now (buf .entry)) r (now (buf .exit)) ⌝ }
+{
+    let fields = Fields {
+        signature,
+        on,
+        unknown2,
+        unknown3,
+        unknown4,
+        unknown5,
+    };
+    pack(add::add_rule(edition, buf, length as usize, name, fields, identifier, s))
+}
+
+// Adds an element to the last rule.
+#[no_mangle]
+pub extern "C" fn rule_deck_add_element(
+    edition: u64,
+    buf: &mut [u8],
+    length: u64,
+    identifier: u32,
+    s: &[u8],
+) -> u64
+    ensures { λ r. ⌜ Sends edition length (addElement identifier (now (s .entry))) (now (buf .entry)) r (now (buf .exit)) ⌝ }
+{
+    pack(add::add_element(edition, buf, length as usize, identifier, s))
+}
+
+// Adds a word to the list that is the last element of the last rule.
+#[no_mangle]
+pub extern "C" fn rule_deck_add_word(edition: u64, buf: &mut [u8], length: u64, word: &[u8]) -> u64
+    ensures { λ r. ⌜ Sends edition length (addWord (now (word .entry))) (now (buf .entry)) r (now (buf .exit)) ⌝ }
+{
+    pack(word::add_word(edition, buf, length as usize, word))
 }

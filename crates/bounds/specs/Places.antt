@@ -1,0 +1,204 @@
+-- No place that an edit answers is above 60,000, so that each answer is one number of 64 bits: code plus 256 times place.
+use Prim.Native.Nat.{ℕ, _*_, _≤_}
+use native.Mathlib.Omega.{arith}
+use mathlib.Core.Path.{_≡_, refl}
+use mathlib.Core.Bool.{Bool, true, false}
+use mathlib.Core.List.{List, [], _∷_}
+use lib.Dec.{leb}
+use lib.ListN.{length, take, drop}
+use borrow.Author.Tests.{leb-true}
+use Rattle.format.specs.declared.Fault.{Fault}
+use Rattle.format.specs.declared.Fault.the-variants as Fault
+use Rattle.format.specs.declared.Outcome.{Outcome}
+use Rattle.format.specs.declared.Outcome.the-variants as Outcome
+use Rattle.format.specs.Fault.{placeOf}
+use Rattle.format.specs.Rows.{total}
+use Rattle.format.specs.Format.{Answer, got, refused, endOf, pick, Bytes, bytes-take}
+use Rattle.kind.specs.declared.Product.{Product}
+use Rattle.kind.specs.declared.Edition.{Edition}
+use Rattle.kind.specs.declared.Edition.the-variants as Edition
+use Rattle.kind.specs.Kinds.{editionOf}
+use Rattle.element.specs.Data.{plain, words, sizes, span, wordsOf}
+use Rattle.element.specs.Element.{Element}
+use Rattle.rule.specs.Rule.{Rule, elementsIn}
+use Rattle.deck.specs.Deck.{readAs, readBy, readDeck, answered, place-small, read-writes-back}
+use Rattle.deck.specs.Written.{written}
+use Rattle.plan.specs.Given.{given}
+use Rattle.plan.specs.Edit.{Edit, switch, rename, remove, insert, addRule, addElement, addWord, Plan, become, refuse, refuseGiven, atRule, atCopy, atSecond, atLast, atList, unlessFull, ifText, atGiven, edited, room, inRoom, plan, planBy, planned, says}
+use Rattle.tables.specs.Tables.{ruleWidth, elementWidth, tabled, readSays}
+use Rattle.view.specs.declared.View.{View}
+use Rattle.view.specs.declared.View.the-variants.{At, No}
+use Rattle.view.specs.Asked.{asked, askedBy, askedOf, askedFirst}
+use Rattle.view.specs.View.{Inside, nameAt, nameView, placed}
+use Rattle.view.specs.Word.{wordAt, elementWord, ruleWord, wordView}
+use Rattle.bounds.specs.Data.{given-end}
+
+-- what is lent to an edit beside its buffer, and is read, is bytes
+unfoldable pub Lent : Edit → Type 0
+Lent (switch k on) = Unit {0}
+Lent (rename k name) = Unit {0}
+Lent (remove k) = Unit {0}
+Lent (insert k second j) = Bytes second
+Lent (addRule name f id s) = Bytes s
+Lent (addElement id s) = Bytes s
+Lent (addWord word) = Unit {0}
+
+-- the place of a plan before 18, 19 and 20
+abbrev Small : Plan → Type 0
+Small (become rs) = Unit {0}
+Small (refuse c q) = q ≤ 60000
+Small (refuseGiven c q) = q ≤ 60000
+
+small-pick : (b : Bool) (q : Plan) (c : Fault) (o : ℕ) → Small q → o ≤ 60000 → Small (pick b q (refuse c o))
+unfolding pick
+small-pick true q c o f h = f
+small-pick false q c o f h = h
+
+small-text : (s : List ℕ) (q : Plan) → Small q → Small (ifText s q)
+unfolding ifText
+small-text s q f = small-pick _ q Fault.Text 0 f (omega arith)
+
+small-full : (n : ℕ) (q : Plan) → Small q → Small (unlessFull n q)
+unfolding unlessFull
+small-full n q f = small-pick _ q Fault.Full 0 f (omega arith)
+
+small-rule : (ys : List Rule) (f : Rule → List Rule → Plan) → ((r : Rule) (later : List Rule) → Small (f r later)) → Small (atRule ys f)
+unfolding atRule
+small-rule [] f g = omega arith
+small-rule (r ∷ later) f g = g r later
+
+small-copy : (ys : List Rule) (f : Rule → Plan) → ((r : Rule) → Small (f r)) → Small (atCopy ys f)
+unfolding atCopy
+small-copy [] f g = omega arith
+small-copy (r ∷ later) f g = g r
+
+small-last : (ys : List Rule) (f : Rule → Plan) → ((r : Rule) → Small (f r)) → Small (atLast ys f)
+unfolding atLast
+small-last [] f g = omega arith
+small-last (r ∷ later) f g = g r
+
+small-list : (ys : List Element) (f : ℕ → List (List ℕ) → Plan) → ((id : ℕ) (ws : List (List ℕ)) → Small (f id ws)) → Small (atList ys f)
+unfolding atList
+small-list [] f g = omega arith
+small-list ((id, plain) ∷ later) f g = omega arith
+small-list ((id, words ws) ∷ later) f g = g id ws
+small-list ((id, sizes a b) ∷ later) f g = omega arith
+small-list ((id, span a b) ∷ later) f g = omega arith
+
+small-given : (a : Answer Element) (f : Element → Plan) → endOf a ≤ 60000 → ((x : Element) → Small (f x)) → Small (atGiven a f)
+unfolding atGiven endOf
+small-given (got x n) f h g = g x
+small-given (refused c q) f h g = h
+
+small-second : (a : Answer (List Rule)) (f : List Rule → Plan) → placeOf (answered a) ≤ 60000 → ((qs : List Rule) → Small (f qs)) → Small (atSecond a f)
+unfolding atSecond
+small-second (got qs n) f h g = g qs
+small-second (refused c q) f h g = h
+
+-- a reading in an edition
+read-small : (edition : ℕ) (p : Product) (s : List ℕ) → editionOf edition ≡ Edition.Of p → Bytes s → placeOf (answered (readAs p s)) ≤ 60000
+unfolding readDeck readBy
+read-small edition p s e b = rw e at (place-small edition s b)
+
+module _ (edition : ℕ) (p : Product) (ed : editionOf edition ≡ Edition.Of p) where
+  element-small : (id : ℕ) (s : List ℕ) → Bytes s → endOf (given p id s) ≤ 60000
+  element-small id s b = omega (arith, given-end p id s b)
+
+  edited-small : (e : Edit) (rs : List Rule) → Lent e → Small (edited p e rs)
+  unfolding edited Lent
+  edited-small (switch k on) rs h = small-rule _ _ (λ r later. tt)
+  edited-small (rename k name) rs h = small-rule _ _ (λ r later. small-text name _ tt)
+  edited-small (remove k) rs h = small-rule _ _ (λ r later. tt)
+  edited-small (insert k second j) rs h = small-second _ _ (read-small edition p second ed h) (λ qs. small-pick _ _ Fault.Absent 0 (small-copy _ _ (λ q. tt)) (omega arith))
+  edited-small (addRule name f id s) rs h = small-text name _ (small-given _ _ (element-small id s h) (λ x. tt))
+  edited-small (addElement id s) rs h = small-last _ _ (λ r. small-full _ _ (small-given _ _ (element-small id s h) (λ x. tt)))
+  edited-small (addWord word) rs h = small-last _ _ (λ r. small-list _ _ (λ id ws. small-full _ _ (small-text word _ tt)))
+
+room-small : (cap : ℕ) (q : Plan) → Small q → placeOf (says (inRoom cap q)) ≤ 60000
+unfolding room says pick
+room-small cap (become rs) f = few (leb (length rs) 256) (leb (length (written rs)) 60000) refl (leb (length (written rs)) cap)
+  where
+    few : (a b : Bool) → leb (length (written rs)) 60000 ≡ b → (c : Bool) → placeOf (says (pick a (pick b (pick c (become rs) (refuse Fault.Room 0)) (refuse Fault.Large 0)) (refuse Fault.Rules 0))) ≤ 60000
+    few true true e true = leb-true (length (written rs)) 60000 e
+    few true true e false = omega arith
+    few true false e c = omega arith
+    few false b e c = omega arith
+room-small cap (refuse c q) f = f
+room-small cap (refuseGiven c q) f = f
+
+pub plan-small : (edition n : ℕ) (d : List ℕ) (e : Edit) → Bytes d → Lent e → placeOf (says (planned edition n d e)) ≤ 60000
+unfolding planned says pick
+plan-small edition n d e b h = by (editionOf edition) refl
+  where
+    read : (p : Product) (a : Answer (List Rule)) → editionOf edition ≡ Edition.Of p → placeOf (answered a) ≤ 60000 → placeOf (says (plan p (length d) e a)) ≤ 60000
+    read p (got rs m) f g = room-small (length d) (edited p e rs) (edited-small edition p f e rs h)
+    read p (refused c q) f g = g
+
+    stated : (p : Product) (t : Bool) → editionOf edition ≡ Edition.Of p → placeOf (says (pick t (plan p (length d) e (readAs p (take n d))) (refuse Fault.Stated 0))) ≤ 60000
+    stated p true f = read p (readAs p (take n d)) f (read-small edition p (take n d) f (bytes-take n d b))
+    stated p false f = omega arith
+
+    by : (o : Edition) → editionOf edition ≡ o → placeOf (says (planBy o n d e)) ≤ 60000
+    by (Edition.Of p) f = stated p (leb n (length d)) f
+    by Edition.Unknown f = omega arith
+
+-- ---- nor is one that a view answers
+
+-- what is told of a rule that is there
+abbrev Few : View → Type 0
+Few (At a n) = Unit {0}
+Few (No c q) = q ≤ 2
+
+view-small : (f : Product → ℕ → Rule → View) (edition k : ℕ) (s : List ℕ) → ((p : Product) (at : ℕ) (r : Rule) → Few (f p at r)) → Bytes s → Inside (asked No f edition k s) (length s) → placeOf (placed (asked No f edition k s)) ≤ 60000
+unfolding asked
+view-small f edition k s g b = by (editionOf edition) refl
+  where
+    at-rule : (v : View) → Few v → length s ≤ 60000 → Inside v (length s) → placeOf (placed v) ≤ 60000
+    at-rule (At a n) w l i = omega arith
+    at-rule (No c q) w l i = omega arith
+
+    first : (p : Product) (at : ℕ) (rs : List Rule) → length s ≤ 60000 → Inside (askedFirst No (f p) at rs) (length s) → placeOf (placed (askedFirst No (f p) at rs)) ≤ 60000
+    first p at [] l i = omega arith
+    first p at (r ∷ rs) l i = at-rule (f p at r) (g p at r) l i
+
+    read : (p : Product) (a : Answer (List Rule)) → editionOf edition ≡ Edition.Of p → readAs p s ≡ a → placeOf (answered a) ≤ 60000 → Inside (askedOf No f k p a) (length s) → placeOf (placed (askedOf No f k p a)) ≤ 60000
+    read p (got rs m) e h w i = first p _ (drop k rs) (read-writes-back p s rs m b h .short) i
+    read p (refused c q) e h w i = w
+
+    by : (o : Edition) → editionOf edition ≡ o → Inside (askedBy No f k o s) (length s) → placeOf (placed (askedBy No f k o s)) ≤ 60000
+    by (Edition.Of p) e i = read p (readAs p s) e refl (read-small edition p s e b) i
+    by Edition.Unknown e i = omega arith
+
+pub name-small : (edition k : ℕ) (s : List ℕ) → Bytes s → Inside (nameView edition k s) (length s) → placeOf (placed (nameView edition k s)) ≤ 60000
+unfolding nameView
+name-small edition k s b i = view-small (λ p. nameAt) edition k s (λ p at r. tt) b i
+
+pub word-small : (edition k e w : ℕ) (s : List ℕ) → Bytes s → Inside (wordView edition k e w s) (length s) → placeOf (placed (wordView edition k e w s)) ≤ 60000
+unfolding wordView
+word-small edition k e w s b i = view-small (ruleWord k e w) edition k s (λ p at r. element p (drop e (r .elements)) _) b i
+  where
+    worded : (ws : List (List ℕ)) (at : ℕ) → Few (wordAt at ws)
+    worded [] at = omega arith
+    worded (us ∷ ws) at = tt
+
+    element : (p : Product) (xs : List Element) (at : ℕ) → Few (elementWord e w at xs)
+    element p [] at = omega arith
+    element p (x ∷ xs) at = worded (drop w (wordsOf (x .1))) _
+
+-- ---- nor one that a read with tables answers
+pub tables-small : (edition rules elements : ℕ) (s : List ℕ) → Bytes s → placeOf (readSays (editionOf edition) rules elements s) ≤ 60000
+unfolding pick
+tables-small edition rules elements s b = by (editionOf edition) refl
+  where
+    read : (a : Answer (List Rule)) → placeOf (answered a) ≤ 60000 → placeOf (tabled rules elements a) ≤ 60000
+    read (got rs n) h = few (leb (ruleWidth * length rs) rules) (leb (elementWidth * total elementsIn rs) elements)
+      where
+        few : (x y : Bool) → placeOf (pick x (pick y (Outcome.Done (length rs)) (Outcome.No Fault.Table 1)) (Outcome.No Fault.Table 0)) ≤ 60000
+        few true true = h
+        few true false = omega arith
+        few false y = omega arith
+    read (refused c q) h = h
+
+    by : (o : Edition) → editionOf edition ≡ o → placeOf (readSays o rules elements s) ≤ 60000
+    by (Edition.Of p) e = read (readAs p s) (read-small edition p s e b)
+    by Edition.Unknown e = omega arith
