@@ -1,0 +1,10 @@
+use Rattle.date.proofs.Range.{no-nan}
+use borrow.Author.Needs.{needs}
+use Rattle.vectors.proofs.float_of.Statement.{statement}
+use Rattle.vectors.proofs.float_of.Tie as tie
+
+float-from-bits-result : tie.Need-float-from-bits-result
+float-from-bits-result c = no-nan (c .before .args .bits) (c .if1 .left)
+
+pub float-of-spec : {M : Type 1} → statement M
+float-of-spec = tie.close (tie.spec (λ c. search needs) float-from-bits-result (λ c. search needs))

@@ -1,0 +1,134 @@
+//! The deck: read into a list of rules with their places, and written from the list.
+use super::element::{read_element, write_data, Element, ElementPlace};
+use super::reader::{write_string, write_word, Reader};
+use super::{judge_edition, refuse, Answer};
+
+/// "A rule's fixed fields (signature with Unknown1, Enabled, Unknown2 to Unknown5)".
+#[derive(Clone, Copy, Debug, PartialEq, Eq)]
+pub struct Fixed {
+    pub signature: u32,
+    pub on: bool,
+    pub unknown: [u32; 4],
+}
+
+#[derive(Clone, Debug, PartialEq, Eq)]
+pub struct Rule {
+    pub fixed: Fixed,
+    pub name: Vec<u16>,
+    pub elements: Vec<Element>,
+}
+
+/// Where a rule stands: start and end, first byte and end of its name's units, and its elements.
+#[derive(Clone, Debug, PartialEq, Eq)]
+pub struct RulePlace {
+    pub start: usize,
+    pub end: usize,
+    pub name: (usize, usize),
+    pub elements: Vec<ElementPlace>,
+}
+
+#[derive(Clone, Debug, PartialEq, Eq)]
+pub struct Deck {
+    pub rules: Vec<Rule>,
+    pub places: Vec<RulePlace>,
+}
+
+pub const MARK: [u8; 3] = *b"RDK";
+pub const VERSION: [u8; 2] = [1, 0];
+pub const BETWEEN: [u8; 2] = [0x01, 0x80];
+pub const HEAD: [&[u8]; 4] = [&[0xFF, 0xFF], &[0, 0], &[0x0C, 0], b"CRuleElement"];
+pub const MOST_BYTES: usize = 60_000;
+pub const MOST_RULES: usize = 256;
+pub const MOST_ELEMENTS: usize = 64;
+pub const MOST_WORDS: usize = 64;
+
+fn read_head(r: &mut Reader, first: bool) -> Answer<()> {
+    if !first {
+        return r.set(&BETWEEN, 8);
+    }
+    HEAD.iter().try_for_each(|field| r.set(field, 8))
+}
+
+fn read_rule(r: &mut Reader, edition: u64, first: bool) -> Answer<(Rule, RulePlace)> {
+    let start = r.at;
+    let signature = r.word()?;
+    let (name, name_first) = r.string()?;
+    let name_place = (name_first, r.at);
+    let on = r.flag()?;
+    let unknown = [r.word()?, r.word()?, r.word()?, r.word()?];
+    let size_place = r.here();
+    let size = r.number(4)?;
+    let body = r.here();
+    let count = r.count(2, 1, MOST_ELEMENTS as u64)?;
+    read_head(r, first)?;
+    let (mut elements, mut places) = (Vec::with_capacity(count as usize), Vec::with_capacity(count as usize));
+    for i in 0..count {
+        if i > 0 {
+            r.set(&BETWEEN, 8)?;
+        }
+        let (element, place) = read_element(r, edition)?;
+        elements.push(element);
+        places.push(place);
+    }
+    if size != r.here() - body {
+        return refuse(12, size_place);
+    }
+    let rule = Rule { fixed: Fixed { signature, on, unknown }, name, elements };
+    Ok((rule, RulePlace { start, end: r.at, name: name_place, elements: places }))
+}
+
+/// A read: 1, then 2, then left to right, 13 after the last rule.
+pub fn read(edition: u64, bytes: &[u8]) -> Answer<Deck> {
+    judge_edition(edition)?;
+    if bytes.len() > MOST_BYTES {
+        return refuse(2, 60_000);
+    }
+    let mut r = Reader::new(bytes);
+    r.set(&MARK, 4)?;
+    r.set(&VERSION, 5)?;
+    let count = r.count(2, 0, MOST_RULES as u64)?;
+    let mut deck = Deck { rules: Vec::new(), places: Vec::new() };
+    for i in 0..count {
+        let (rule, place) = read_rule(&mut r, edition, i == 0)?;
+        deck.rules.push(rule);
+        deck.places.push(place);
+    }
+    if r.at < bytes.len() {
+        return refuse(13, r.here());
+    }
+    Ok(deck)
+}
+
+/// The deck check: the read's refusals without 14; done, the number of rules.
+pub fn check(edition: u64, bytes: &[u8]) -> Answer<u64> {
+    Ok(read(edition, bytes)?.rules.len() as u64)
+}
+
+fn write_rule(out: &mut Vec<u8>, rule: &Rule, first: bool) {
+    let mut body = (rule.elements.len() as u16).to_le_bytes().to_vec();
+    body.extend(if first { HEAD.concat() } else { BETWEEN.to_vec() });
+    for (i, element) in rule.elements.iter().enumerate() {
+        if i > 0 {
+            body.extend_from_slice(&BETWEEN);
+        }
+        write_word(&mut body, element.identifier);
+        write_data(&mut body, &element.data);
+    }
+    write_word(out, rule.fixed.signature);
+    write_string(out, &rule.name);
+    write_word(out, u32::from(rule.fixed.on));
+    rule.fixed.unknown.iter().for_each(|&n| write_word(out, n));
+    write_word(out, body.len() as u32);
+    out.extend(body);
+}
+
+/// A deck written from its rules.
+pub fn write(rules: &[Rule]) -> Vec<u8> {
+    let mut out = MARK.to_vec();
+    out.extend_from_slice(&VERSION);
+    out.extend_from_slice(&(rules.len() as u16).to_le_bytes());
+    for (i, rule) in rules.iter().enumerate() {
+        write_rule(&mut out, rule, i == 0);
+    }
+    out
+}

@@ -1,0 +1,211 @@
+//! Random decks by a seed of one's own: xorshift, no clock and no machine in it.
+use super::deck::{write, Fixed, Rule, MOST_BYTES};
+use super::element::{data_bytes, Data, Element, Span};
+use super::kind::{identifiers_of, row, Kind};
+use super::{DESK, STUDIO};
+
+pub struct Random(u64);
+
+impl Random {
+    pub fn new(seed: u64) -> Random {
+        let mut random = Random(seed ^ 0x9E37_79B9_7F4A_7C15);
+        if random.0 == 0 {
+            random.0 = 1;
+        }
+        (0..8).for_each(|_| drop(random.next()));
+        random
+    }
+
+    pub fn next(&mut self) -> u64 {
+        self.0 ^= self.0 << 13;
+        self.0 ^= self.0 >> 7;
+        self.0 ^= self.0 << 17;
+        self.0.wrapping_mul(0x2545_F491_4F6C_DD1D)
+    }
+
+    /// 0 to n - 1.
+    pub fn below(&mut self, n: usize) -> usize {
+        ((self.next() >> 16) % n as u64) as usize
+    }
+
+    /// Once in n times.
+    pub fn once_in(&mut self, n: usize) -> bool {
+        self.below(n) == 0
+    }
+
+    pub fn pick<T: Copy>(&mut self, list: &[T]) -> T {
+        list[self.below(list.len())]
+    }
+
+    pub fn bytes(&mut self, n: usize) -> Vec<u8> {
+        (0..n).map(|_| (self.next() >> 40) as u8).collect()
+    }
+}
+
+const DATE_BOUNDS: [f64; 14] =
+    [0.0, -0.0, 2.0, 2.5, -1.25, -0.25, -657_434.0, -657_434.999, 2_958_465.5, 2_958_465.999, 59.0, 60.0, 61.0, 1e-300];
+
+/// Bits that are a date.
+pub fn good_date(r: &mut Random) -> u64 {
+    match r.below(4) {
+        0 => r.pick(&DATE_BOUNDS).to_bits(),
+        1 => (r.below(3_615_900) as f64 - 657_434.0).to_bits(),
+        _ => ((r.next() >> 11) as f64 / (1u64 << 53) as f64 * 3_615_900.0 - 657_434.5).to_bits(),
+    }
+}
+
+/// Bits that may be none: bounds, infinities, not-a-numbers, any.
+pub fn any_date(r: &mut Random) -> u64 {
+    let refused = [-657_435.0, 2_958_466.0, f64::INFINITY, f64::NEG_INFINITY, f64::NAN, 1e300, -657_435.5];
+    match r.below(4) {
+        0 => r.pick(&refused).to_bits(),
+        1 => r.pick(&refused).to_bits().wrapping_add(r.below(3) as u64).wrapping_sub(1),
+        2 => r.next(),
+        _ => good_date(r),
+    }
+}
+
+pub fn units(r: &mut Random) -> Vec<u16> {
+    let n = match r.below(40) {
+        0 => 254,
+        1 => 255,
+        2 => r.below(256),
+        _ => r.below(5),
+    };
+    (0..n).map(|_| (r.next() >> 33) as u16).collect()
+}
+
+fn words(r: &mut Random) -> Vec<Vec<u16>> {
+    let n = match r.below(30) {
+        0 => 64,
+        1 => 63,
+        _ => r.below(4),
+    };
+    (0..n).map(|_| units(r)).collect()
+}
+
+pub fn data(r: &mut Random, kind: Kind) -> Data {
+    match kind {
+        Kind::Marker => Data::Marker,
+        Kind::WordList => Data::Words(words(r)),
+        Kind::Size => Data::Size { minimum: r.next() as u32, maximum: r.next() as u32 },
+        Kind::Dates => Data::Dates(Span {
+            after_set: r.once_in(2),
+            after: good_date(r),
+            before_set: r.once_in(2),
+            before: good_date(r),
+        }),
+        _ => Data::Simple,
+    }
+}
+
+pub fn element(r: &mut Random, edition: u64) -> Element {
+    let identifier = r.pick(&identifiers_of(edition));
+    let kind = row(identifier).unwrap_or(Kind::Marker);
+    Element { identifier, data: data(r, kind) }
+}
+
+pub fn fixed(r: &mut Random) -> Fixed {
+    let unknown = [r.next() as u32, r.next() as u32, 0, r.next() as u32];
+    Fixed { signature: r.next() as u32, on: r.once_in(2), unknown }
+}
+
+pub fn rule(r: &mut Random, edition: u64) -> Rule {
+    let n = match r.below(30) {
+        0 => 64,
+        1 => 63,
+        _ => 1 + r.below(4),
+    };
+    let elements = (0..n).map(|_| element(r, edition)).collect();
+    Rule { fixed: fixed(r), name: units(r), elements }
+}
+
+/// A list of rules whose deck has at most 60,000 bytes.
+pub fn rules(r: &mut Random, edition: u64) -> Vec<Rule> {
+    let n = r.below(5);
+    let mut rules: Vec<Rule> = (0..n).map(|_| rule(r, edition)).collect();
+    while write(&rules).len() > MOST_BYTES {
+        rules.pop();
+    }
+    rules
+}
+
+pub fn small_rule(identifier: u32, name: Vec<u16>) -> Rule {
+    let fixed = Fixed { signature: 0, on: true, unknown: [0; 4] };
+    Rule { fixed, name, elements: vec![Element { identifier, data: Data::Simple }] }
+}
+
+/// Rules, of simple elements alone, whose deck has exactly that many bytes: 14,000 to 61,000.
+pub fn rules_of_size(bytes: usize) -> Vec<Rule> {
+    // 7 bytes, a first rule of 61, others of 45, and two for each unit
+    let mut others = bytes / 500;
+    if (7 + 61 + 45 * others) % 2 != bytes % 2 {
+        others += 1;
+    }
+    let mut units_left = (bytes - 7 - 61 - 45 * others) / 2;
+    let mut rules = Vec::new();
+    for _ in 0..=others {
+        let n = units_left.min(254);
+        units_left -= n;
+        rules.push(small_rule(0x12D, (0..n as u16).collect()));
+    }
+    rules
+}
+
+/// The bytes with one or more faults in them.
+pub fn damage(r: &mut Random, bytes: &mut Vec<u8>) {
+    for _ in 0..1 + r.below(2) {
+        let at = r.below(bytes.len() + 1);
+        match r.below(7) {
+            0 => bytes.truncate(at),
+            1 => bytes.extend(vec![0; 1 + at % 3]),
+            2 => bytes.insert(at, r.next() as u8),
+            3 if at < bytes.len() => drop(bytes.remove(at)),
+            4 if at < bytes.len() => bytes[at] = r.pick(&[0, 1, 2, 0x7F, 0x80, 0xF5, 0xFE, 0xFF]),
+            5 if bytes.len() > 13 => bytes[11..13].copy_from_slice(&[0xFF, r.pick(&[0, 0xFE, 0xFF])]), // a first name's length
+            _ if at < bytes.len() => bytes[at] ^= 1 << r.below(8),
+            _ => {}
+        }
+    }
+}
+
+/// A deck that mostly is sound in that edition.
+pub fn deck(r: &mut Random, edition: u64) -> Vec<u8> {
+    let edition = if r.once_in(12) { DESK + STUDIO - edition } else { edition };
+    let mut bytes = write(&rules(r, edition));
+    if r.once_in(4) {
+        damage(r, &mut bytes);
+    }
+    if r.once_in(200) {
+        bytes.resize(MOST_BYTES + r.below(3), 0);
+    }
+    bytes
+}
+
+/// Data of that kind, sound or not.
+pub fn given_data(r: &mut Random, kind: Kind) -> Vec<u8> {
+    let mut bytes = data_bytes(&data(r, kind));
+    match r.below(12) {
+        0 => damage(r, &mut bytes),
+        1 => bytes.push(0),
+        2 => bytes.truncate(bytes.len() - 1),
+        3 if kind == Kind::Dates => {
+            let at = r.pick(&[16, 32]);
+            bytes[at..at + 8].copy_from_slice(&any_date(r).to_le_bytes());
+        }
+        4 if kind == Kind::WordList => bytes[..4].copy_from_slice(&(60 + r.below(10) as u32).to_le_bytes()),
+        5 if kind == Kind::WordList && bytes.len() > 8 => bytes[8] = 0xFF, // the first word's length
+        _ => {}
+    }
+    bytes
+}
+
+/// An identifier, mostly one of the edition's.
+pub fn identifier(r: &mut Random, edition: u64) -> u32 {
+    match r.below(12) {
+        0 => r.pick(&identifiers_of(STUDIO)),
+        1 => r.pick(&[0, 0xF0, 0x190, 0x2F5, 0x0100_00F5, 0x1_00F5, 0xFFFF_FFFF, 0x8000_0064, 0x165]),
+        2 => r.pick(&identifiers_of(STUDIO)) ^ (1 << r.below(32)),
+        _ => r.pick(&identifiers_of(edition)),
+    }
+}

@@ -1,0 +1,84 @@
+//! Reading into lent tables, views of names and words, fixed fields.
+use super::deck::{read, Deck, Fixed, RulePlace};
+use super::{refuse, Answer};
+
+fn rule_row(place: &RulePlace) -> [u32; 4] {
+    [place.start as u32, place.end as u32, place.name.0 as u32, place.elements.len() as u32]
+}
+
+fn rule_rows(deck: &Deck) -> Vec<u32> {
+    deck.places.iter().flat_map(rule_row).collect()
+}
+
+fn element_rows(deck: &Deck) -> Vec<u32> {
+    let mut rows = Vec::new();
+    for (k, (rule, place)) in deck.rules.iter().zip(&deck.places).enumerate() {
+        for (element, at) in rule.elements.iter().zip(&place.elements) {
+            rows.extend([element.identifier, k as u32, at.start as u32, at.end as u32]);
+        }
+    }
+    rows
+}
+
+/// A read with tables: 14 last, rule table (0) first; "Later entries stay as they were."
+pub fn fill(edition: u64, bytes: &[u8], rules: &mut [u32], elements: &mut [u32]) -> Answer<u64> {
+    fill_from(&read(edition, bytes)?, rules, elements)
+}
+
+pub fn fill_from(deck: &Deck, rules: &mut [u32], elements: &mut [u32]) -> Answer<u64> {
+    let (rule_rows, element_rows) = (rule_rows(deck), element_rows(deck));
+    if rules.len() < rule_rows.len() {
+        return refuse(14, 0);
+    }
+    if elements.len() < element_rows.len() {
+        return refuse(14, 1);
+    }
+    rules[..rule_rows.len()].copy_from_slice(&rule_rows);
+    elements[..element_rows.len()].copy_from_slice(&element_rows);
+    Ok(deck.rules.len() as u64)
+}
+
+fn nth<T>(list: &[T], k: u64, place: u64) -> Answer<&T> {
+    match list.get(usize::try_from(k).unwrap_or(usize::MAX)) {
+        Some(x) => Ok(x),
+        None => refuse(16, place),
+    }
+}
+
+/// The part of the deck that is the name of rule k: first byte and end.
+pub fn name(edition: u64, bytes: &[u8], k: u64) -> Answer<(usize, usize)> {
+    name_in(&read(edition, bytes)?, k)
+}
+
+pub fn name_in(deck: &Deck, k: u64) -> Answer<(usize, usize)> {
+    Ok(nth(&deck.places, k, 0)?.name)
+}
+
+/// The part that is word w of element e of rule k.
+pub fn word(edition: u64, bytes: &[u8], k: u64, e: u64, w: u64) -> Answer<(usize, usize)> {
+    word_in(&read(edition, bytes)?, k, e, w)
+}
+
+pub fn word_in(deck: &Deck, k: u64, e: u64, w: u64) -> Answer<(usize, usize)> {
+    let rule = nth(&deck.places, k, 0)?;
+    let element = nth(&rule.elements, e, 1)?;
+    Ok(*nth(&element.words, w, 2)?)
+}
+
+/// The number and place of a view: done, its first byte.
+pub fn first_byte(view: Answer<(usize, usize)>) -> Answer<u64> {
+    view.map(|(first, _)| first as u64)
+}
+
+/// The bytes of a view: "a refused view is the empty part at the start".
+pub fn part(bytes: &[u8], view: Answer<(usize, usize)>) -> &[u8] {
+    match view {
+        Ok((first, end)) => &bytes[first..end],
+        Err(_) => &bytes[..0],
+    }
+}
+
+pub fn fixed(edition: u64, bytes: &[u8], k: u64) -> Answer<Fixed> {
+    let deck = read(edition, bytes)?;
+    Ok(nth(&deck.rules, k, 0)?.fixed)
+}

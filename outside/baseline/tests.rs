@@ -1,0 +1,216 @@
+//! The baseline held against document 01's own examples, and against itself by another way.
+use super::date::{accepted, civil, Civil};
+use super::deck::{check, read, write, Rule};
+use super::edit::{edit, edited, start, Edit};
+use super::element::{data_bytes, Data};
+use super::kind::{alone, identifiers, identifiers_of, row, Kind};
+use super::lister::list;
+use super::random::{self, Random};
+use super::tables::{fill, fixed, name, part, word};
+use super::value::{put_value, value_of, Value};
+use super::{coded, refuse, Answer, DESK, STUDIO};
+
+/// "One deck whole", byte by byte as the page has it.
+fn one_deck() -> Vec<u8> {
+    let mut deck = vec![0x52, 0x44, 0x4B, 0x01, 0x00, 0x01, 0x00, 0, 0, 0, 0, 0x01, 0x41, 0x00, 0x01, 0, 0, 0];
+    deck.extend([0; 16]);
+    deck.extend([0x20, 0, 0, 0, 0x01, 0x00, 0xFF, 0xFF, 0x00, 0x00, 0x0C, 0x00]);
+    deck.extend([0x43, 0x52, 0x75, 0x6C, 0x65, 0x45, 0x6C, 0x65, 0x6D, 0x65, 0x6E, 0x74]);
+    deck.extend([0xF5, 0x01, 0, 0, 1, 0, 0, 0, 0, 0, 0, 0]);
+    deck
+}
+
+#[test]
+fn document_deck() {
+    let deck = one_deck();
+    assert_eq!(deck.len(), 70);
+    assert_eq!(check(STUDIO, &deck), Ok(1));
+    assert_eq!(check(DESK, &deck), refuse(10, 58));
+    assert_eq!(coded(check(DESK, &deck)), 10 + 256 * 58);
+    assert_eq!(check(0, &deck), refuse(1, 0));
+    assert_eq!(check(STUDIO, &[]), refuse(3, 0));
+    for edition in [DESK, STUDIO] {
+        assert_eq!(check(edition, &[0x52, 0x44, 0x4B, 1, 0, 0, 0]), Ok(0));
+    }
+    assert_eq!(list(&deck), "DECK 1 70\nRULE 0 ON 1 1\nELEM 0 000001F5 8\nEND 1 1\n");
+    assert_eq!(list(&deck[..69]), "REFUSED 3 66\n");
+    let (mut rules, mut elements) = ([7; 5], [7; 6]);
+    assert_eq!(fill(STUDIO, &deck, &mut rules, &mut elements), Ok(1));
+    assert_eq!(rules, [7, 70, 12, 1, 7]);
+    assert_eq!(elements, [0x1F5, 0, 62, 70, 7, 7]);
+    assert_eq!(fill(STUDIO, &deck, &mut rules[..3], &mut []), refuse(14, 0));
+    assert_eq!(fill(STUDIO, &deck, &mut rules[..4], &mut elements[..3]), refuse(14, 1));
+    assert_eq!(part(&deck, name(STUDIO, &deck, 0)), [0x41, 0]);
+    assert_eq!(name(STUDIO, &deck, 1), refuse(16, 0));
+    assert_eq!(word(STUDIO, &deck, 0, 1, 0), refuse(16, 1));
+    assert_eq!(word(STUDIO, &deck, 0, 0, 0), refuse(16, 2));
+    assert!(fixed(STUDIO, &deck, 0).map_or(false, |f| f.on && f.signature == 0));
+}
+
+#[test]
+fn document_identifiers() {
+    assert_eq!(identifiers().len(), 35);
+    assert_eq!(identifiers_of(DESK).len(), 17);
+    assert_eq!(identifiers_of(STUDIO).len(), 35);
+    assert!(identifiers().iter().all(|&i| row(i).is_some()));
+    assert_eq!((0..0x1000).filter(|&i| row(i).is_some()).count(), 35);
+    assert_eq!(alone(DESK, 0xF5), Ok(Kind::SimpleCondition));
+    for wrong in [0x2F5, 0x0100_00F5, 0xF0, 0x190] {
+        assert_eq!(alone(STUDIO, wrong), refuse(9, 0));
+    }
+    assert_eq!(alone(DESK, 0x1F5), refuse(10, 0));
+    assert_eq!(alone(3, 0x1F5), refuse(1, 0));
+}
+
+fn moment(date: f64) -> Answer<(u64, u64, u64, u64)> {
+    civil(date.to_bits()).map(|Civil { year, month, day, second }| (year, month, day, second))
+}
+
+#[test]
+fn document_dates() {
+    assert_eq!(moment(2.0), Ok((1900, 1, 1, 0)));
+    assert_eq!(moment(2.5), Ok((1900, 1, 1, 43_200)));
+    assert_eq!(moment(-1.25), Ok((1899, 12, 29, 21_600)));
+    assert_eq!(moment(-0.25), Ok((1899, 12, 30, 21_600)));
+    assert_eq!(moment(-0.0), Ok((1899, 12, 30, 0)));
+    assert_eq!(moment(-657_434.0), Ok((100, 1, 1, 0)));
+    assert_eq!(moment(2_958_465.5), Ok((9999, 12, 31, 43_200)));
+    assert_eq!(moment(36_526.0), Ok((2000, 1, 1, 0)));
+    assert_eq!(moment(61.0), Ok((1900, 3, 1, 0)));
+    for wrong in [-657_435.0, 2_958_466.0, f64::INFINITY, f64::NEG_INFINITY, f64::NAN] {
+        assert_eq!(moment(wrong), refuse(11, 0));
+    }
+}
+
+/// The float way to the same numbers: exact for these, as a product with 86,400 is compared and not trusted.
+#[test]
+fn dates_by_floats() {
+    let mut r = Random::new(11);
+    for _ in 0..200_000 {
+        let bits = if r.once_in(2) { random::good_date(&mut r) } else { random::any_date(&mut r) };
+        let date = f64::from_bits(bits);
+        assert_eq!(accepted(bits), date > -657_435.0 && date < 2_958_466.0, "{bits:x}");
+        if let Ok(moment) = civil(bits) {
+            let fraction = date.abs().fract();
+            let second = (fraction * 86_400.0).floor();
+            assert!((second - moment.second as f64).abs() <= 1.0, "{bits:x}");
+            assert_eq!(day_number(&moment), date.trunc() as i64, "{bits:x}");
+            assert!((1..=12).contains(&moment.month) && (1..=31).contains(&moment.day));
+        }
+    }
+}
+
+/// Days from 30 December 1899, by the count of leap years before a year: another way than walking.
+fn day_number(c: &Civil) -> i64 {
+    let before = c.year as i64 - 1;
+    let leap = (c.year % 4 == 0 && c.year % 100 != 0) || c.year % 400 == 0;
+    let months = [0, 31, 59, 90, 120, 151, 181, 212, 243, 273, 304, 334];
+    let in_year = months[c.month as usize - 1] + i64::from(leap && c.month > 2) + c.day as i64;
+    365 * before + before / 4 - before / 100 + before / 400 + in_year - 693_594
+}
+
+#[test]
+fn values() {
+    let mut r = Random::new(12);
+    for _ in 0..20_000 {
+        let element = random::element(&mut r, STUDIO);
+        let data = data_bytes(&element.data);
+        let value = value_of(STUDIO, element.identifier, &data).unwrap();
+        let mut buffer = [0xA5; 50];
+        let put = put_value(STUDIO, element.identifier, &value, &mut buffer);
+        if let Value::Words(_) = value {
+            assert_eq!(put, refuse(40, 0));
+        } else {
+            assert_eq!(put, Ok(data.len() as u64));
+            assert_eq!(buffer[..data.len()], data);
+            assert!(buffer[data.len()..].iter().all(|&b| b == 0xA5));
+            assert_eq!(put_value(STUDIO, element.identifier, &value, &mut buffer[..data.len() - 1]), refuse(20, 0));
+        }
+        let longer = [&data[..], &[0]].concat();
+        assert_eq!(value_of(STUDIO, element.identifier, &longer), refuse(45, data.len() as u64));
+    }
+}
+
+fn sizes_fit(rules: &[Rule], bytes: &[u8]) {
+    let deck = read(STUDIO, bytes).unwrap();
+    assert_eq!(deck.rules, rules);
+    for (k, place) in deck.places.iter().enumerate() {
+        assert_eq!(write(&rules[..=k]).len(), place.end);
+        assert_eq!(write(&rules[..k]).len(), place.start);
+        for (element, at) in rules[k].elements.iter().zip(&place.elements) {
+            assert_eq!(data_bytes(&element.data), &bytes[at.start..at.end]);
+            assert_eq!(matches!(element.data, Data::Words(_)), row(element.identifier) == Some(Kind::WordList));
+        }
+    }
+}
+
+#[test]
+fn decks_round() {
+    let mut r = Random::new(13);
+    for _ in 0..5_000 {
+        let rules = random::rules(&mut r, STUDIO);
+        sizes_fit(&rules, &write(&rules));
+        let mut bytes = write(&rules);
+        random::damage(&mut r, &mut bytes);
+        if let Ok(deck) = read(STUDIO, &bytes) {
+            assert_eq!(write(&deck.rules), bytes);
+        }
+    }
+    for size in [14_000, 59_999, 60_000, 60_001, 60_002] {
+        assert_eq!(write(&random::rules_of_size(size)).len(), size);
+    }
+}
+
+fn random_edit(r: &mut Random, rules: &[Rule]) -> Edit {
+    let k = r.below(rules.len() + 1) as u64;
+    let name: Vec<u8> = random::units(r).iter().flat_map(|u| u.to_le_bytes()).collect();
+    let element = random::element(r, STUDIO);
+    let data = data_bytes(&element.data);
+    match r.below(7) {
+        0 => Edit::Switch { k, on: r.once_in(2) },
+        1 => Edit::Rename { k, name },
+        2 => Edit::Remove { k },
+        3 => Edit::Insert { k, second: write(&random::rules(r, STUDIO)), j: r.below(3) as u64 },
+        4 => Edit::AddRule { name, fixed: random::fixed(r), identifier: element.identifier, data },
+        5 => Edit::AddElement { identifier: element.identifier, data },
+        _ => Edit::AddWord { word: name },
+    }
+}
+
+#[test]
+fn edits_read_back() {
+    let mut r = Random::new(14);
+    for _ in 0..300 {
+        let mut buffer = r.bytes(9_000);
+        let mut length = start(&mut buffer).unwrap();
+        let mut rules = Vec::new();
+        for _ in 0..40 {
+            let wanted = random_edit(&mut r, &rules);
+            let before = buffer.clone();
+            let answer = edit(STUDIO, &mut buffer, length, &wanted);
+            let list = edited(STUDIO, rules.clone(), &wanted);
+            match answer {
+                Err(_) => assert_eq!(buffer, before),
+                Ok(new) => {
+                    rules = list.unwrap();
+                    assert_eq!(read(STUDIO, &buffer[..new as usize]).unwrap().rules, rules);
+                    let most = new.max(length) as usize;
+                    assert_eq!(buffer[most..], before[most..]);
+                    assert!(buffer[new as usize..most].iter().all(|&b| b == 0));
+                    length = new;
+                }
+            }
+        }
+    }
+}
+
+#[test]
+fn first_rule_taken_out() {
+    let rules = vec![random::small_rule(0xC8, vec![1]), random::small_rule(0xC9, vec![2])];
+    let mut buffer = write(&rules);
+    let old = buffer.len();
+    assert_eq!(edit(DESK, &mut buffer, old as u64, &Edit::Remove { k: 0 }), Ok(70));
+    assert_eq!(buffer[..70], write(&rules[1..]));
+    assert_eq!(buffer[70..], [0; 47]);
+    assert_eq!(buffer[34..38], [0x20, 0, 0, 0]);
+}

@@ -1,0 +1,78 @@
+//! Every cut and every damage of a single byte, of decks that together have every identifier.
+use crate::baseline::deck::{write, Fixed, Rule};
+use crate::baseline::element::{Data, Element, Span};
+use crate::baseline::kind::{identifiers_of, row, Kind};
+use crate::baseline::random::small_rule;
+use crate::baseline::{DESK, STUDIO};
+use crate::decks::compare;
+use crate::share::pieces;
+use crate::Outcome;
+
+fn element(identifier: u32) -> Element {
+    let data = match row(identifier) {
+        Some(Kind::Marker) => Data::Marker,
+        Some(Kind::Size) => Data::Size { minimum: 3, maximum: 0x0102_0304 },
+        Some(Kind::Dates) => Data::Dates(Span {
+            after_set: true,
+            after: 2.5f64.to_bits(),
+            before_set: identifier == 0xE1,
+            before: (-1.25f64).to_bits(),
+        }),
+        Some(Kind::WordList) => {
+            let n = identifier as usize % 3;
+            Data::Words((0..n as u16).map(|i| (0..i + 1).collect()).collect())
+        }
+        _ => Data::Simple,
+    };
+    Element { identifier, data }
+}
+
+fn rule(name: u16, elements: Vec<Element>) -> Rule {
+    let fixed = Fixed { signature: 0x0102_0304, on: name % 2 == 1, unknown: [5, 6, 7, 0xFFFF_FFFF] };
+    Rule { fixed, name: (0..name).collect(), elements }
+}
+
+/// All identifiers of the edition, a few to a rule.
+fn every_kind(edition: u64) -> Vec<Rule> {
+    let identifiers = identifiers_of(edition);
+    identifiers.chunks(9).zip(1..).map(|(some, name)| rule(name, some.iter().map(|&i| element(i)).collect())).collect()
+}
+
+fn words(lengths: &[u16]) -> Element {
+    Element { identifier: 0x212, data: Data::Words(lengths.iter().map(|&n| (0..n).collect()).collect()) }
+}
+
+pub fn decks() -> Vec<Vec<u8>> {
+    vec![
+        write(&[]),
+        write(&[small_rule(0x1F5, vec![0x41])]),
+        write(&[rule(0, vec![element(0x64)]), rule(1, vec![element(0x14F)])]),
+        write(&every_kind(DESK)),
+        write(&every_kind(STUDIO)),
+        write(&[rule(3, vec![words(&[0; 64])])]),
+        write(&[rule(255, vec![words(&[1])])]),
+    ]
+}
+
+pub fn all() -> Outcome {
+    let mut places = Vec::new();
+    let decks = decks();
+    for (i, deck) in decks.iter().enumerate() {
+        places.extend((0..=deck.len()).map(|at| (i, at)));
+    }
+    pieces(places.len(), |i| {
+        let (deck, at) = (&decks[places[i].0], places[i].1);
+        let mut cases = 0;
+        for edition in 0..4 {
+            cases += compare(edition, &deck[..at], true)?;
+        }
+        let mut damaged = deck.clone();
+        for change in 1..=255 {
+            if at < deck.len() {
+                damaged[at] = deck[at] ^ change;
+                cases += compare(DESK, &damaged, false)? + compare(STUDIO, &damaged, false)?;
+            }
+        }
+        Ok(cases)
+    })
+}

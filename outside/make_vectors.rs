@@ -1,0 +1,66 @@
+//! Makes the stored vectors with the baseline: `make_vectors DIR` writes DIR/*.vec, always the same bytes;
+//! `make_vectors check FILE ..` unpacks files, runs each call over the baseline and says whether all agree.
+mod baseline;
+#[path = "vectors/call.rs"]
+mod call;
+#[path = "vectors/cases.rs"]
+mod cases;
+#[path = "vectors/edit_cases.rs"]
+mod edit_cases;
+#[path = "vectors/file.rs"]
+mod file;
+#[path = "vectors/limit_cases.rs"]
+mod limit_cases;
+#[path = "vectors/pack.rs"]
+mod pack;
+#[path = "vectors/parts.rs"]
+mod parts;
+
+use file::File;
+
+fn check(path: &str) -> bool {
+    let bytes = std::fs::read(path).expect("a vector file");
+    match file::disagrees(&bytes) {
+        Ok(count) => println!("{path}: {count} vectors agree"),
+        Err(number) => println!("{path}: vector {number} does not agree"),
+    }
+    file::disagrees(&bytes).is_ok()
+}
+
+fn write(directory: &str, file: &File) {
+    assert!(file.bytes.len() <= 65_536, "{} is too long: {}", file.name, file.bytes.len());
+    println!("{}: {} vectors, {} bytes", file.name, file.count, file.bytes.len());
+    std::fs::write(format!("{directory}/{}.vec", file.name), &file.bytes).expect("a folder to write to");
+}
+
+fn files() -> Vec<File> {
+    vec![
+        cases::all_identifiers(),
+        cases::all_dates(),
+        cases::all_values(),
+        cases::all_checks(),
+        cases::all_tables(),
+        edit_cases::all_edits(),
+        edit_cases::all_given(),
+        edit_cases::all_orders(),
+        edit_cases::all_runs(),
+        limit_cases::all_lengths(),
+        limit_cases::all_counts(),
+    ]
+}
+
+fn main() {
+    let arguments: Vec<String> = std::env::args().skip(1).collect();
+    match arguments.split_first() {
+        Some((first, files)) if first == "check" => {
+            let right = files.iter().filter(|path| check(path)).count();
+            std::process::exit(i32::from(right < files.len()));
+        }
+        Some((directory, [])) => {
+            let files = files();
+            files.iter().for_each(|file| write(directory, file));
+            println!("{}", file::answers(&files));
+        }
+        _ => println!("make_vectors DIR, or make_vectors check FILE .."),
+    }
+}
