@@ -1,11 +1,10 @@
 -- The kinds of elements: document 01, "The deck", the table of identifiers and the two editions.
-use Prim.Native.Nat.{ℕ, zero, suc, _+_, _*_, _/_, _%_, _≤_, _<_}
-use native.Mathlib.Nat.{add-zero}
+use Prim.Native.Nat.{ℕ, _≤_, _<_}
 use native.Mathlib.Omega.{arith}
-use mathlib.Core.Path.{_≡_, refl, _∙_}
+use mathlib.Core.Path.{_≡_, refl}
 use mathlib.Core.Bool.{Bool, true, false, _||_}
-use mathlib.Core.List.{List, [], _∷_, _++_, map}
-use lib.ListN.{length, getD}
+use mathlib.Core.List.{List, [], _∷_, _++_}
+use lib.ListN.{length}
 use lib.Dec.{eqb}
 use borrow.Author.Tests.{ne-eqb}
 use borrow.Author.Needs.{needs}
@@ -161,81 +160,6 @@ module _ (edition id : ℕ) {e : Edition} where
   pub kind-none : e ≡ editionOf edition → e ≡ Edition.Unknown → No Fault.Edition 0 ≡ kindOf edition id
   unfolding kindOf rowBy
   kind-none f h = rw (← f, h)
-
--- the rows by small numbers, as the code's table has them
-unfoldable pub rowAt : ℕ → Row
-rowAt n =
-    pick (eqb n 1) (Is Marker)
-    (pick (eqb n 2) (Is (Simple Condition))
-    (pick (eqb n 3) (Is (Simple Action))
-    (pick (eqb n 4) (Is (Simple Exception))
-    (pick (eqb n 5) (Is WordList)
-    (pick (eqb n 6) (Is (Size Condition))
-    (pick (eqb n 7) (Is (Size Exception))
-    (pick (eqb n 8) (Is (Dates Condition))
-    (pick (eqb n 9) (Is (Dates Exception))
-    (No Fault.Unknown 0)))))))))
-
--- and back
-unfoldable pub codeOf : Row → ℕ
-codeOf (Is Marker) = 1
-codeOf (Is (Simple Condition)) = 2
-codeOf (Is (Simple Action)) = 3
-codeOf (Is (Simple Exception)) = 4
-codeOf (Is WordList) = 5
-codeOf (Is (Size Condition)) = 6
-codeOf (Is (Size Action)) = 0
-codeOf (Is (Size Exception)) = 7
-codeOf (Is (Dates Condition)) = 8
-codeOf (Is (Dates Action)) = 0
-codeOf (Is (Dates Exception)) = 9
-codeOf (No c q) = 0
-
--- the rows of n identifiers from i on
-unfoldable pub rowsFrom : ℕ → ℕ → List Row
-rowsFrom i zero = []
-rowsFrom i (suc n) = rowIn kinds i ∷ rowsFrom (suc i) n
-
--- n lines of sixteen rows
-unfoldable pub linesFrom : ℕ → ℕ → List (List Row)
-linesFrom i zero = []
-linesFrom i (suc n) = rowsFrom i 16 ∷ linesFrom (i + 16) n
-
--- what the code's table has to hold, and its rule, one computed test for all of it
-unfoldable pub table : List (List ℕ)
-table = map (map codeOf) (linesFrom 0 34)
-
-table-right : map (map rowAt) table ≡ linesFrom 0 34
-unfolding table linesFrom codeOf rowAt rowsFrom rowIn has pick
-table-right = refl
-
-row-in : (l : List ℕ) (i n k : ℕ) → map rowAt l ≡ rowsFrom i n → k < n → rowAt (getD l k 0) ≡ rowIn kinds (i + k)
-unfolding rowsFrom
-row-in l i zero k t h = absurd (omega arith)
-row-in [] i (suc n) k t h = absurd (let z : _≡_ {A = ℕ} 0 1 = cc in omega arith)
-row-in (x ∷ l) i (suc n) zero t h = let e : rowAt x ≡ rowIn kinds i = cc in rw add-zero e
-row-in (x ∷ l) i (suc n) (suc k) t h =
-    let e : map rowAt l ≡ rowsFrom (suc i) n = cc in
-    let z : suc i + k ≡ i + suc k = omega arith in
-    rw z at (row-in l (suc i) n k e (omega arith))
-
-line-in : (ls : List (List ℕ)) (i n q k : ℕ) → map (map rowAt) ls ≡ linesFrom i n → q < n → k < 16 → rowAt (getD (getD ls q []) k 0) ≡ rowIn kinds (i + 16 * q + k)
-unfolding linesFrom
-line-in ls i zero q k t h m = absurd (omega arith)
-line-in [] i (suc n) q k t h m = absurd (let z : _≡_ {A = ℕ} 0 1 = cc in omega arith)
-line-in (l ∷ ls) i (suc n) zero k t h m =
-    let e : map rowAt l ≡ rowsFrom i 16 = cc in
-    let z : i + 16 * 0 + k ≡ i + k = omega arith in
-    rw z (row-in l i 16 k e m)
-line-in (l ∷ ls) i (suc n) (suc q) k t h m =
-    let e : map (map rowAt) ls ≡ linesFrom (i + 16) n = cc in
-    let z : i + 16 + 16 * q + k ≡ i + 16 * suc q + k = omega arith in
-    rw z at (line-in ls (i + 16) n q k e (omega arith) m)
-
-pub row-is : (id : ℕ) {r : Row} → r ≡ rowAt (getD (getD table (id / 16) []) (id % 16) 0) → id < 0x220 → r ≡ rowIn kinds id
-row-is id e h =
-    let z : 0 + 16 * (id / 16) + id % 16 ≡ id = omega arith in
-    e ∙ (rw z at (line-in table 0 34 (id / 16) (id % 16) table-right (omega arith) (omega arith)))
 
 -- what is not below n is in no list and in no row of numbers below n
 unfoldable pub Below : ℕ → List ℕ → Type 0

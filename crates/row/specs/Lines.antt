@@ -1,0 +1,146 @@
+-- The kinds as the code looks them up: one number for each sixteen identifiers, with a digit for each.
+use Prim.Native.Nat.{ℕ, zero, suc, _+_, _*_, _/_, _%_, _^_, _≤_, _<_}
+use native.Mathlib.Nat.{add-zero}
+use native.Mathlib.Omega.{arith}
+use mathlib.Core.Path.{_≡_, refl, sym, ap, _∙_}
+use mathlib.Core.Bool.{Bool, true, false}
+use mathlib.Core.List.{List, [], _∷_}
+use lib.Dec.{eqb}
+use lib.Pow.{shr-shr}
+use borrow.Author.Tests.{ne-eqb}
+use borrow.Author.Needs.{needs}
+use Rattle.format.specs.declared.Fault.the-variants as Fault
+use Rattle.format.specs.Format.{pick}
+use Rattle.kind.specs.declared.Role.the-variants.{Condition, Action, Exception}
+use Rattle.kind.specs.declared.Kind.{Kind}
+use Rattle.kind.specs.declared.Kind.the-variants.{Marker, Simple, WordList, Size, Dates}
+use Rattle.kind.specs.declared.Row.{Row}
+use Rattle.kind.specs.declared.Row.the-variants.{Is, No}
+use Rattle.kind.specs.Kinds.{kinds, has, rowIn}
+
+-- the rows by digits
+unfoldable pub rowAt : ℕ → Row
+rowAt n =
+    pick (eqb n 1) (Is Marker)
+    (pick (eqb n 2) (Is (Simple Condition))
+    (pick (eqb n 3) (Is (Simple Action))
+    (pick (eqb n 4) (Is (Simple Exception))
+    (pick (eqb n 5) (Is WordList)
+    (pick (eqb n 6) (Is (Size Condition))
+    (pick (eqb n 7) (Is (Size Exception))
+    (pick (eqb n 8) (Is (Dates Condition))
+    (pick (eqb n 9) (Is (Dates Exception))
+    (No Fault.Unknown 0)))))))))
+
+-- and back
+unfoldable pub digitOf : Row → ℕ
+digitOf (Is Marker) = 1
+digitOf (Is (Simple Condition)) = 2
+digitOf (Is (Simple Action)) = 3
+digitOf (Is (Simple Exception)) = 4
+digitOf (Is WordList) = 5
+digitOf (Is (Size Condition)) = 6
+digitOf (Is (Size Action)) = 0
+digitOf (Is (Size Exception)) = 7
+digitOf (Is (Dates Condition)) = 8
+digitOf (Is (Dates Action)) = 0
+digitOf (Is (Dates Exception)) = 9
+digitOf (No c q) = 0
+
+-- the digits of n identifiers from i on, the first lowest
+unfoldable pub digits : ℕ → ℕ → ℕ
+digits i zero = 0
+digits i (suc n) = digitOf (rowIn kinds i) + 16 * digits (suc i) n
+
+-- line n: the sixteen identifiers from 16 n on
+unfoldable pub lineOf : ℕ → ℕ
+lineOf n = digits (16 * n) 16
+
+-- ---- a digit of a line gives the row back
+
+digit-small : (r : Row) → digitOf r < 16
+unfolding digitOf
+digit-small (Is Marker) = omega arith
+digit-small (Is (Simple Condition)) = omega arith
+digit-small (Is (Simple Action)) = omega arith
+digit-small (Is (Simple Exception)) = omega arith
+digit-small (Is WordList) = omega arith
+digit-small (Is (Size Condition)) = omega arith
+digit-small (Is (Size Action)) = omega arith
+digit-small (Is (Size Exception)) = omega arith
+digit-small (Is (Dates Condition)) = omega arith
+digit-small (Is (Dates Action)) = omega arith
+digit-small (Is (Dates Exception)) = omega arith
+digit-small (No c q) = omega arith
+
+digit-in : (i n k : ℕ) → k < n → digits i n / 2 ^ (4 * k) % 16 ≡ digitOf (rowIn kinds (i + k))
+unfolding digits
+digit-in i zero k h = absurd (omega arith)
+digit-in i (suc n) zero h = rw add-zero (omega (arith, digit-small (rowIn kinds i)))
+digit-in i (suc n) (suc k) h =
+    let d = digitOf (rowIn kinds i) in
+    let r = digits (suc i) n in
+    let z : suc i + k ≡ i + suc k = omega arith in
+    let e : 4 * suc k ≡ 4 + 4 * k = omega arith in
+    let q : (d + 16 * r) / 2 ^ 4 ≡ r = omega (arith, digit-small (rowIn kinds i)) in
+    let t : (d + 16 * r) / 2 ^ (4 + 4 * k) ≡ r / 2 ^ (4 * k) = sym (shr-shr (d + 16 * r) 4 (4 * k)) ∙ ap (λ (x : ℕ). x / 2 ^ (4 * k)) q in
+    rw (e, t, ← z) (digit-in (suc i) n k (omega arith))
+
+-- each row of the table has a digit of its own
+unfoldable Kept : List (Kind × List ℕ) → Type 0
+Kept [] = Unit {0}
+Kept ((k, ids) ∷ rows) = (rowAt (digitOf (Is k)) ≡ Is k) × Kept rows
+
+kept : Kept kinds
+unfolding rowAt digitOf pick Kept
+kept = search needs
+
+none-back : rowAt (digitOf (No Fault.Unknown 0)) ≡ No Fault.Unknown 0
+unfolding rowAt digitOf pick
+none-back = refl
+
+row-back : (rows : List (Kind × List ℕ)) (id : ℕ) → Kept rows → rowAt (digitOf (rowIn rows id)) ≡ rowIn rows id
+unfolding rowIn pick Kept
+row-back [] id h = none-back
+row-back ((k, ids) ∷ rows) id h = go (has ids id) (row-back rows id (h .1))
+  where
+    go : (b : Bool) → rowAt (digitOf (rowIn rows id)) ≡ rowIn rows id → rowAt (digitOf (pick b (Is k) (rowIn rows id))) ≡ pick b (Is k) (rowIn rows id)
+    go true e = h .0
+    go false e = e
+
+-- ---- as the code finds it
+
+pub row-by : (id : ℕ) {r : Row} {l : ℕ} → l ≡ lineOf (id / 16) → r ≡ rowAt (l / 2 ^ (4 * (id % 16)) % 16) → r ≡ rowIn kinds id
+unfolding lineOf
+row-by id e h =
+    let z : 16 * (id / 16) + id % 16 ≡ id = omega arith in
+    let d : digits (16 * (id / 16)) 16 / 2 ^ (4 * (id % 16)) % 16 ≡ digitOf (rowIn kinds id) = rw z at (digit-in (16 * (id / 16)) 16 (id % 16) (omega arith)) in
+    rw (e, d) at h ∙ row-back kinds id kept
+
+-- a line without an identifier
+unfoldable pub Off : ℕ → List ℕ → Type 0
+Off n [] = Unit {0}
+Off n (x ∷ xs) = (n ≡ x / 16 → ⊥) × Off n xs
+
+unfoldable pub AllOff : ℕ → List (Kind × List ℕ) → Type 0
+AllOff n [] = Unit {0}
+AllOff n ((k, ids) ∷ rows) = Off n ids × AllOff n rows
+
+off-has : (n id : ℕ) (ids : List ℕ) → id / 16 ≡ n → Off n ids → has ids id ≡ false
+unfolding has Off
+off-has n id [] e o = refl
+off-has n id (x ∷ xs) e o = rw (ne-eqb id x (λ z. o .0 (sym e ∙ ap (λ (m : ℕ). m / 16) z))) (off-has n id xs e (o .1))
+
+off-row : (n id : ℕ) (rows : List (Kind × List ℕ)) → id / 16 ≡ n → AllOff n rows → rowIn rows id ≡ No Fault.Unknown 0
+unfolding rowIn AllOff pick
+off-row n id [] e o = refl
+off-row n id ((k, ids) ∷ rows) e o = rw (off-has n id ids e (o .0)) (off-row n id rows e (o .1))
+
+off-digits : (n i k : ℕ) → AllOff n kinds → 16 * n ≤ i → i + k ≤ 16 * n + 16 → digits i k ≡ 0
+unfolding digits digitOf
+off-digits n i zero o h l = refl
+off-digits n i (suc k) o h l = rw (off-row n i kinds (omega arith) o, off-digits n (suc i) k o (omega arith) (omega arith))
+
+pub off-line : (n : ℕ) → AllOff n kinds → 0 ≡ lineOf n
+unfolding lineOf
+off-line n o = sym (off-digits n (16 * n) 16 o (omega arith) (omega arith))
