@@ -5,6 +5,8 @@ use mathlib.Core.Path.{_≡_, refl, sym, ap, _∙_}
 use mathlib.Core.List.{List, [], _∷_}
 use lib.ListN.{length}
 use Rattle.format.specs.declared.Fault.{Fault}
+use Rattle.format.specs.declared.Outcome.{Outcome}
+use Rattle.format.specs.declared.Outcome.the-variants as Outcome
 use Rattle.format.specs.declared.Read.{Read}
 use Rattle.format.specs.declared.Read.the-variants.{Got, No}
 use Rattle.format.specs.Number.{number}
@@ -18,7 +20,8 @@ use Rattle.element.specs.Element.{Element}
 use Rattle.rule.specs.Rule.{Rule, rule, body, head, placed, elementsIn}
 use Rattle.rule.specs.Places.{ruleBytes, elementsAt, body-parts, behind-count, rule-parts}
 use Rattle.tables.specs.Tables.{ruleRow, ruleRows, elementRow, elementRows, ruleElementRows, allElementRows, ruleWidth, elementWidth}
-use Rattle.tables.specs.Fill.{put, put-row, rows-long, total-one, rows-next, rows-done, Filling, filling-start, filling-room, filling-go, filling-done, ElementsFill}
+use Rattle.buffer.specs.Laid.{put}
+use Rattle.tables.specs.Fill.{put-row, rows-long, total-one, rows-next, rows-done, Filling, filling-start, filling-room, filling-go, filling-done, ElementsFill}
 
 -- ---- the number of a rule's elements, its head, its elements
 
@@ -88,6 +91,12 @@ abbrev pub RulesFill : Product → List ℕ → ℕ → List ℕ → List ℕ �
 RulesFill p s n t t₁ e e₁ =
     (u : List ℕ) (stop : ℕ) (a : Ahead (rule p) s u n stop 0 7) → length (ruleRows p 0 7 (a .ys)) ≤ length t → length (allElementRows p 0 7 (a .ys)) ≤ length e
     → (t₁ ≡ put t 0 (ruleRows p 0 7 (a .ys))) × (e₁ ≡ put e 0 (allElementRows p 0 7 (a .ys)))
+
+-- where there is room for them; else nothing
+abbrev pub Fills : Product → List ℕ → ℕ → Outcome → List ℕ → List ℕ → List ℕ → List ℕ → Type 0
+Fills p s n (Outcome.Done k) t t₁ e e₁ = RulesFill p s n t t₁ e e₁
+Fills p s n (Outcome.No c q) t t₁ e e₁ = (t₁ ≡ t) × (e₁ ≡ e)
+Fills p s n (Outcome.Given c q) t t₁ e e₁ = (t₁ ≡ t) × (e₁ ≡ e)
 
 -- i of them are stored, the next stands at q, and the elements' table is full up to k
 abbrev pub RulesTurn : Product → List ℕ → ℕ → List ℕ → List ℕ → ℕ → ℕ → ℕ → List ℕ → List ℕ → Type 0

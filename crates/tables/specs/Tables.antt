@@ -49,10 +49,13 @@ ruleElementRows p i at r = elementRows p i (elementsAt p i at r) (r .elements)
 abbrev pub allElementRows : Product → ℕ → ℕ → List Rule → List ℕ
 allElementRows p = rowsOf (rule p) (ruleElementRows p)
 
--- what a read answers, with tables of so many numbers: "14 last, rule table first"
+-- n rules and m elements in tables of so many numbers: "14 last, rule table first"
+unfoldable pub inTables : ℕ → ℕ → ℕ → ℕ → Outcome
+inTables n m rules elements = pick (leb (ruleWidth * n) rules) (pick (leb (elementWidth * m) elements) (Done n) (No Fault.Table 1)) (No Fault.Table 0)
+
+-- what a read answers
 abbrev pub tabled : ℕ → ℕ → Answer (List Rule) → Outcome
-tabled rules elements (got rs n) =
-    pick (leb (ruleWidth * length rs) rules) (pick (leb (elementWidth * total elementsIn rs) elements) (Done (length rs)) (No Fault.Table 1)) (No Fault.Table 0)
+tabled rules elements (got rs n) = inTables (length rs) (total elementsIn rs) rules elements
 tabled rules elements (refused c q) = No c q
 
 -- "Later entries stay as they were"

@@ -2,9 +2,11 @@
 use Prim.Native.Nat.{ℕ, _*_, _/_, _<_, _≤_}
 use native.Mathlib.Omega.{arith}
 use mathlib.Core.Path.{_≡_, refl, sym, ap, _∙_}
+use mathlib.Core.Bool.{Bool, true, false}
 use mathlib.Core.List.{List, []}
 use lib.ListN.{length, length-append}
-use borrow.Author.Tests.{le-leb, lt-leb}
+use lib.Dec.{leb}
+use borrow.Author.Tests.{le-leb, lt-leb, leb-true}
 use Rattle.format.specs.declared.Fault.{Fault}
 use Rattle.format.specs.declared.Fault.the-variants as Fault
 use Rattle.format.specs.declared.Outcome.{Outcome}
@@ -22,9 +24,10 @@ use Rattle.rule.specs.Rule.{Rule, rule, elementsIn}
 use Rattle.deck.specs.declared.Scan.{Scan}
 use Rattle.deck.specs.declared.Scan.the-variants as Scan
 use Rattle.deck.specs.Deck.{header, header-length, deck, deck-row, readAs, readBy, readDeck, scanned, Whole, read-writes-back, deck-small}
-use Rattle.tables.specs.Tables.{ruleWidth, elementWidth, ruleRows, allElementRows, tabled, filled, rulesLeft, elementsLeft, readSays, rulesAfter, elementsAfter}
-use Rattle.tables.specs.Fill.{put, put-front}
-use Rattle.tables.specs.Parts.{RulesFill, rule-rows-long, all-rows-long}
+use Rattle.tables.specs.Tables.{ruleWidth, elementWidth, ruleRows, allElementRows, inTables, tabled, filled, rulesLeft, elementsLeft, readSays, rulesAfter, elementsAfter}
+use Rattle.buffer.specs.Laid.{put}
+use Rattle.tables.specs.Fill.{put-front}
+use Rattle.tables.specs.Parts.{RulesFill, Fills, rule-rows-long, all-rows-long}
 
 -- behind its header stand the rules, to the last byte
 pub deck-ahead : (p : Product) (s : List ℕ) (rs : List Rule) (m : ℕ) → Whole p s rs m → (a : Ahead (rule p) s [] (length rs) (length s) 0 7) × (a .ys ≡ rs)
@@ -88,32 +91,45 @@ module _ (edition : ℕ) (s : List ℕ) {d : Edition} (f : d ≡ editionOf editi
               let eq : q ≡ q₁ = cc in
               answered-as w (rw (ek, eq) (refl, (refl, refl)))
 
-      module _ {n m : ℕ} (i : c ≡ Scan.Is n m) where
-        pub read-rules : length t / ruleWidth < n → Promise (editionOf edition) s t t e e (No Fault.Table 0)
-        unfolding pick
-        read-rules l =
-            let a = found i in
-            let z : length t < ruleWidth * length (a .rs) = omega (arith, a .rules) in
-            answered-as (a .is) (rw (lt-leb (ruleWidth * length (a .rs)) (length t) z) (refl, (refl, refl)))
+      -- o is whether there is room
+      pub read-room : {n m : ℕ} {o : Outcome} {t₁ e₁ : List ℕ} → c ≡ Scan.Is n m → Bytes s → o ≡ inTables n m (length t) (length e) → Fills p s n o t t₁ e e₁ → Promise (editionOf edition) s t t₁ e e₁ o
+      unfolding inTables pick
+      read-room {n} {m} {o} {t₁} {e₁} i bs z x = go (leb (ruleWidth * n) (length t)) (leb (elementWidth * m) (length e)) refl refl z
+        where
+          a : Tells p s n m
+          a = found i
 
-        pub read-elements : n ≤ length t / ruleWidth → length e / elementWidth < m → Promise (editionOf edition) s t t e e (No Fault.Table 1)
-        unfolding pick
-        read-elements l k =
-            let a = found i in
-            let y : ruleWidth * length (a .rs) ≤ length t = omega (arith, a .rules) in
-            let z : length e < elementWidth * total elementsIn (a .rs) = omega (arith, a .elements) in
-            answered-as (a .is) (rw (le-leb (ruleWidth * length (a .rs)) (length t) y, lt-leb (elementWidth * total elementsIn (a .rs)) (length e) z) (refl, (refl, refl)))
+          answer : o ≡ tabled (length t) (length e) (got (a .rs) (a .ends))
+          answer = rw (← a .rules, ← a .elements) z
 
-        pub read-done : {t₁ e₁ : List ℕ} → Bytes s → n ≤ length t / ruleWidth → m ≤ length e / elementWidth → RulesFill p s n t t₁ e e₁ → Promise (editionOf edition) s t t₁ e e₁ (Done n)
-        unfolding pick
-        read-done {t₁} {e₁} bs l k o =
-            let a = found i in
-            let rs = a .rs in
-            let b = deck-ahead p s rs (a .ends) (read-writes-back p s rs (a .ends) bs (a .is)) in
-            let y : ruleWidth * length rs ≤ length t = omega (arith, a .rules) in
-            let z : elementWidth * total elementsIn rs ≤ length e = omega (arith, a .elements) in
-            let fills : RulesFill p s (length rs) t t₁ e e₁ = rw (a .rules) at o in
-            let v = fills [] (length s) (b .0) (rw (b .1) (omega (arith, rule-rows-long p 7 rs))) (rw (b .1) (omega (arith, all-rows-long p 7 rs))) in
-            let vt : t₁ ≡ filled (ruleRows p 0 7 rs) t = v .0 ∙ ap (λ (w : List Rule). put t 0 (ruleRows p 0 7 w)) (b .1) ∙ put-front t (ruleRows p 0 7 rs) in
-            let ve : e₁ ≡ filled (allElementRows p 0 7 rs) e = v .1 ∙ ap (λ (w : List Rule). put e 0 (allElementRows p 0 7 w)) (b .1) ∙ put-front e (allElementRows p 0 7 rs) in
-            answered-as (a .is) (rw (le-leb (ruleWidth * length rs) (length t) y, le-leb (elementWidth * total elementsIn rs) (length e) z) (ap Done (a .rules), (vt, ve)))
+          none : {k : Fault} {q : ℕ} → o ≡ No k q → Promise (editionOf edition) s t t₁ e e₁ o
+          none h = let y = rw h at x in answered-as (a .is) (rw (← answer) (refl, (rw h (y .0), rw h (y .1))))
+
+          done : ruleWidth * n ≤ length t → elementWidth * m ≤ length e → o ≡ Done n → Promise (editionOf edition) s t t₁ e e₁ o
+          done l k h =
+              let rs = a .rs in
+              let b = deck-ahead p s rs (a .ends) (read-writes-back p s rs (a .ends) bs (a .is)) in
+              let fills : RulesFill p s (length rs) t t₁ e e₁ = rw (a .rules) at (rw h at x) in
+              let v = fills [] (length s) (b .0) (rw (b .1) (omega (arith, rule-rows-long p 7 rs, a .rules))) (rw (b .1) (omega (arith, all-rows-long p 7 rs, a .elements))) in
+              let vt : t₁ ≡ filled (ruleRows p 0 7 rs) t = v .0 ∙ ap (λ (w : List Rule). put t 0 (ruleRows p 0 7 w)) (b .1) ∙ put-front t (ruleRows p 0 7 rs) in
+              let ve : e₁ ≡ filled (allElementRows p 0 7 rs) e = v .1 ∙ ap (λ (w : List Rule). put e 0 (allElementRows p 0 7 w)) (b .1) ∙ put-front e (allElementRows p 0 7 rs) in
+              answered-as (a .is) (rw (← answer) (refl, (rw h vt, rw h ve)))
+
+          go : (x y : Bool) → leb (ruleWidth * n) (length t) ≡ x → leb (elementWidth * m) (length e) ≡ y → o ≡ pick x (pick y (Done n) (No Fault.Table 1)) (No Fault.Table 0) → Promise (editionOf edition) s t t₁ e e₁ o
+          go true true f g h = done (leb-true _ _ f) (leb-true _ _ g) h
+          go true false f g h = none h
+          go false y f g h = none h
+
+-- as the code judges the room
+module _ (n m rules elements : ℕ) where
+  pub room-rules : rules / ruleWidth < n → No Fault.Table 0 ≡ inTables n m rules elements
+  unfolding inTables pick
+  room-rules l = rw (lt-leb (ruleWidth * n) rules (omega arith))
+
+  pub room-elements : n ≤ rules / ruleWidth → elements / elementWidth < m → No Fault.Table 1 ≡ inTables n m rules elements
+  unfolding inTables pick
+  room-elements l k = rw (le-leb (ruleWidth * n) rules (omega arith), lt-leb (elementWidth * m) elements (omega arith))
+
+  pub room-both : n ≤ rules / ruleWidth → m ≤ elements / elementWidth → Done n ≡ inTables n m rules elements
+  unfolding inTables pick
+  room-both l k = rw (le-leb (ruleWidth * n) rules (omega arith), le-leb (elementWidth * m) elements (omega arith))

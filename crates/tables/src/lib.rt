@@ -11,9 +11,10 @@ ghost use Prim.Native.Nat.{_≤_, _<_, _+_, _^_};
 ghost use lib.ListN.{length};
 ghost use Rattle.kind.specs.Kinds.{editionOf};
 ghost use Rattle.rule.specs.Places.{dataAt};
-ghost use Rattle.tables.specs.Tables.{readSays, rulesAfter, elementsAfter};
-ghost use Rattle.tables.specs.Fill.{put, Below, ElementsFill};
-ghost use Rattle.tables.specs.Parts.{BodyFill, RuleFill, RulesFill};
+ghost use Rattle.tables.specs.Tables.{inTables, readSays, rulesAfter, elementsAfter};
+ghost use Rattle.buffer.specs.Laid.{put};
+ghost use Rattle.tables.specs.Fill.{Below, ElementsFill};
+ghost use Rattle.tables.specs.Parts.{BodyFill, RuleFill, RulesFill, Fills};
 
 // The numbers of a row.
 const RULE_WIDTH: usize = 4;
@@ -167,6 +168,32 @@ fn fill_rules(s: &[u8], product: Product, n: u64, rules: &mut [u32], elements: &
     }
 }
 
+// Whether tables of so many numbers have room for n rules and m elements: the rule table first.
+fn room(n: u64, m: u64, rules: usize, elements: usize) -> Outcome
+    ensures { λ r. ⌜ r ≡ inTables n m rules elements ⌝ }
+{
+    if ((rules / RULE_WIDTH) as u64) < n {
+        return Outcome::No(Fault::Table, 0);
+    }
+    if ((elements / ELEMENT_WIDTH) as u64) < m {
+        return Outcome::No(Fault::Table, 1);
+    }
+    Outcome::Done(n as usize)
+}
+
+// The n rules of a deck, where there is room for them; else nothing.
+fn fill(s: &[u8], product: Product, n: u64, o: Outcome, rules: &mut [u32], elements: &mut [u32])
+    requires { ⌜ length (now s) ≤ 60000 ⌝ }
+    requires { ⌜ n ≤ 256 ⌝ }
+    ensures { λ _. ⌜ Fills product (now (s .entry)) n o (now (rules .entry)) (now (rules .exit)) (now (elements .entry)) (now (elements .exit)) ⌝ }
+{
+    match o {
+        Outcome::Done(_) => fill_rules(s, product, n, rules, elements),
+        Outcome::No(_, _) => {}
+        Outcome::Given(_, _) => {}
+    }
+}
+
 // Reads a deck into two tables: the number of rules; or a refusal, with both tables as found.
 pub fn read(edition: u64, s: &[u8], rules: &mut [u32], elements: &mut [u32]) -> Outcome
     ensures { λ r. ⌜ (r ≡ readSays (editionOf edition) (length (now (rules .entry))) (length (now (elements .entry))) (now (s .entry))) × ((now (rules .exit) ≡ rulesAfter (editionOf edition) (now (s .entry)) (now (rules .entry)) (now (elements .entry))) × (now (elements .exit) ≡ elementsAfter (editionOf edition) (now (s .entry)) (now (rules .entry)) (now (elements .entry)))) ⌝ }
@@ -179,14 +206,9 @@ pub fn read(edition: u64, s: &[u8], rules: &mut [u32], elements: &mut [u32]) -> 
     match scan {
         Scan::No(c, p) => Outcome::No(c, p),
         Scan::Is(n, m) => {
-            if ((rules.len() / RULE_WIDTH) as u64) < n {
-                return Outcome::No(Fault::Table, 0);
-            }
-            if ((elements.len() / ELEMENT_WIDTH) as u64) < m {
-                return Outcome::No(Fault::Table, 1);
-            }
-            fill_rules(s, product, n, rules, elements);
-            Outcome::Done(n as usize)
+            let o = room(n, m, rules.len(), elements.len());
+            fill(s, product, n, o, rules, elements);
+            o
         }
     }
 }
