@@ -1,11 +1,13 @@
 -- A rule: document 01, "The deck"; source document 001, sections 2.2.10 and 2.3.
 use Prim.Native.Nat.{ℕ, _+_, _*_, _^_, _<_, _≤_}
 use native.Mathlib.Omega.{arith}
-use mathlib.Core.Path.{_≡_, refl}
-use mathlib.Core.Bool.{Bool}
+use mathlib.Core.Path.{_≡_, refl, sym, _∙_}
+use mathlib.Core.Bool.{Bool, true, false}
 use mathlib.Core.List.{List, [], _∷_}
 use lib.ListN.{length, drop}
 use lib.Dec.{eqb}
+use borrow.Author.Tests.{eq-eqb, ne-eqb}
+use Rattle.format.specs.declared.Fault.{Fault}
 use Rattle.format.specs.declared.Fault.the-variants as Fault
 use Rattle.format.specs.declared.Read.{Read}
 use Rattle.format.specs.declared.Read.the-variants.{Got, No}
@@ -14,10 +16,10 @@ use Rattle.format.specs.Join.{pair, judged, via, seq, _then_, then-fit}
 use Rattle.format.specs.Number.{number, within-is, count, fixed, bytes, value, flag}
 use Rattle.format.specs.Each.{each, each-long, AllFit, counted}
 use Rattle.format.specs.Sized.{sized, measured}
-use Rattle.format.specs.Seen.{seen, itself, none, told-got, via-is, pair-stop, number-no}
+use Rattle.format.specs.Seen.{seen, itself, none, unlike, told-got, via-is, pair-stop, then-stop, then-go, number-no}
 use Rattle.text.specs.Text.{string}
 use Rattle.kind.specs.declared.Product.{Product}
-use Rattle.element.specs.Element.{Element, element}
+use Rattle.element.specs.Element.{Element, element, named}
 
 -- what a rule says; Data Size, the number of elements, heads and 8001s are not in it, since they follow from it
 pub record Rule : Type 0 where
@@ -84,6 +86,36 @@ rule p i = via (fields p i)
 -- what the code tells of a rule
 abbrev pub elementsIn : Rule → ℕ
 elementsIn r = length (r .elements)
+
+-- what stands before the element at place j of its rule: 8001 where it is not the first
+unfoldable pub leadAt : ℕ → List ℕ → ℕ → Read
+leadAt j s at = pick (eqb j 0) (Got 0 at) (seen none separator s at)
+
+module _ (j : ℕ) (s : List ℕ) (at : ℕ) where
+  pub lead-first : j ≡ 0 → Got 0 at ≡ leadAt j s at
+  unfolding leadAt pick
+  lead-first e = rw (eq-eqb j 0 e)
+
+  pub lead-later : {r : Read} → (j ≡ 0 → ⊥) → r ≡ seen none separator s at → r ≡ leadAt j s at
+  unfolding leadAt pick
+  lead-later e h = rw (ne-eqb j 0 e) h
+
+module _ (p : Product) (j : ℕ) (s : List ℕ) (at : ℕ) {b : Read} where
+  pub lead-stop : {c : Fault} {q : ℕ} → b ≡ leadAt j s at → b ≡ No c q → b ≡ seen named (placed p j) s at
+  unfolding leadAt placed pick
+  lead-stop {c} {q} e h = go (eqb j 0) e
+    where
+      go : (t : Bool) → b ≡ pick t (Got 0 at) (seen none separator s at) → b ≡ seen named (pick t (element p) (separator then element p)) s at
+      go true f = unlike f h
+      go false f = then-stop named separator (element p) s at f h
+
+  pub lead-go : {v q : ℕ} {r : Read} → b ≡ leadAt j s at → b ≡ Got v q → r ≡ seen named (element p) s q → r ≡ seen named (placed p j) s at
+  unfolding leadAt placed pick
+  lead-go {v} {q} {r} e h o = go (eqb j 0) e
+    where
+      go : (t : Bool) → b ≡ pick t (Got 0 at) (seen none separator s at) → r ≡ seen named (pick t (element p) (separator then element p)) s at
+      go true f = let z : Got v q ≡ Got 0 at = sym h ∙ f in let y : q ≡ at = cc in rw y at o
+      go false f = then-go named separator (element p) s at f h o
 
 -- the twelve bytes of the class name as two numbers
 pub class-is : (s : List ℕ) (at : ℕ) {out : Read} → out ≡ seen none (fixed 12 (0x656C45656C755243 + 2 ^ 64 * 0x746E656D) Fault.Field) s at → out ≡ seen none (bytes className Fault.Field) s at

@@ -10,7 +10,7 @@ ghost use Rattle.format.specs.Each.{each};
 ghost use Rattle.format.specs.Sized.{sized};
 ghost use Rattle.element.specs.Element.{named};
 ghost use Rattle.format.specs.Seen.{seen, none};
-ghost use Rattle.rule.specs.Rule.{separator, classHead, head, placed, body, fromUnknown4, fromUnknown2, rule, elementsIn};
+ghost use Rattle.rule.specs.Rule.{separator, classHead, head, leadAt, placed, body, fromUnknown4, fromUnknown2, rule, elementsIn};
 
 // The fixed fields of a rule; the signature is with Unknown1.
 pub struct Fields {
@@ -58,14 +58,21 @@ pub fn head_at(s: &[u8], at: usize, i: u64) -> Read
     class_at(s, p)
 }
 
-// The element at place j of its rule, with 8001 before it where it is not the first; its value is its identifier.
+// What stands before the element at place j of its rule: 8001 where it is not the first.
+fn lead_at(s: &[u8], at: usize, j: u64) -> Read
+    ensures { λ r. ⌜ r ≡ leadAt j (now (s .entry)) at ⌝ }
+{
+    if j == 0 {
+        return Read::Got(0, at);
+    }
+    separator_at(s, at)
+}
+
+// The element at place j of its rule, behind that; its value is its identifier.
 pub fn placed_at(s: &[u8], at: usize, product: Product, j: u64) -> Read
     ensures { λ r. ⌜ r ≡ seen named (placed product j) (now (s .entry)) at ⌝ }
 {
-    if j == 0 {
-        return identified::element_at(s, at, product);
-    }
-    let b = separator_at(s, at);
+    let b = lead_at(s, at, j);
     let Read::Got(_, p) = b else {
         return b;
     };

@@ -53,11 +53,22 @@ pub fn left(s: &[u8], at: usize) -> usize
     s.len() - at
 }
 
+// At how many places of a slice k bytes can be read: one number for all of them, so that a place costs one comparison.
+fn places(s: &[u8], k: usize) -> usize
+    requires { ⌜ 1 ≤ k ⌝ }
+    ensures { λ r. ⌜ r ≡ length (now (s .entry)) + 1 - k ⌝ }
+{
+    if s.len() < k {
+        return 0;
+    }
+    s.len() - k + 1
+}
+
 // A number of 1, 2, 3, 4 or 8 bytes.
 pub fn u8_at(s: &[u8], at: usize) -> Read
     ensures { λ r. ⌜ r ≡ seen itself (number 1) (now (s .entry)) at ⌝ }
 {
-    if left(s, at) < 1 {
+    if places(s, 1) <= at {
         return Read::No(Fault::Cut, at);
     }
     Read::Got(one(s, at), at + 1)
@@ -66,7 +77,7 @@ pub fn u8_at(s: &[u8], at: usize) -> Read
 pub fn u16_at(s: &[u8], at: usize) -> Read
     ensures { λ r. ⌜ r ≡ seen itself (number 2) (now (s .entry)) at ⌝ }
 {
-    if left(s, at) < 2 {
+    if places(s, 2) <= at {
         return Read::No(Fault::Cut, at);
     }
     Read::Got(two(s, at), at + 2)
@@ -75,7 +86,7 @@ pub fn u16_at(s: &[u8], at: usize) -> Read
 pub fn u24_at(s: &[u8], at: usize) -> Read
     ensures { λ r. ⌜ r ≡ seen itself (number 3) (now (s .entry)) at ⌝ }
 {
-    if left(s, at) < 3 {
+    if places(s, 3) <= at {
         return Read::No(Fault::Cut, at);
     }
     Read::Got(three(s, at), at + 3)
@@ -84,7 +95,7 @@ pub fn u24_at(s: &[u8], at: usize) -> Read
 pub fn u32_at(s: &[u8], at: usize) -> Read
     ensures { λ r. ⌜ r ≡ seen itself (number 4) (now (s .entry)) at ⌝ }
 {
-    if left(s, at) < 4 {
+    if places(s, 4) <= at {
         return Read::No(Fault::Cut, at);
     }
     Read::Got(four(s, at), at + 4)
@@ -93,7 +104,7 @@ pub fn u32_at(s: &[u8], at: usize) -> Read
 pub fn u64_at(s: &[u8], at: usize) -> Read
     ensures { λ r. ⌜ r ≡ seen itself (number 8) (now (s .entry)) at ⌝ }
 {
-    if left(s, at) < 8 {
+    if places(s, 8) <= at {
         return Read::No(Fault::Cut, at);
     }
     Read::Got(eight(s, at), at + 8)
@@ -103,7 +114,7 @@ pub fn u64_at(s: &[u8], at: usize) -> Read
 pub fn fixed96_at(s: &[u8], at: usize, first: u64, last: u64) -> Read
     ensures { λ r. ⌜ r ≡ seen none (fixed 12 (first + 2 ^ 64 * last) Fault.Field) (now (s .entry)) at ⌝ }
 {
-    if left(s, at) < 12 {
+    if places(s, 12) <= at {
         return Read::No(Fault::Cut, at);
     }
     if eight(s, at) != first {
