@@ -25,7 +25,7 @@ use Rattle.deck.specs.Deck.{readAs, readBy, readDeck, answered, place-small, re
 use Rattle.deck.specs.Written.{written}
 use Rattle.plan.specs.Given.{given}
 use Rattle.plan.specs.Edit.{Edit, switch, rename, remove, insert, addRule, addElement, addWord, Plan, become, refuse, refuseGiven, atRule, atCopy, atSecond, atLast, atList, unlessFull, ifText, atGiven, edited, room, inRoom, plan, planBy, planned, says}
-use Rattle.tables.specs.Tables.{ruleWidth, elementWidth, tabled, readSays}
+use Rattle.tables.specs.Tables.{ruleWidth, elementWidth, inTables, tabled, readSays}
 use Rattle.view.specs.declared.View.{View}
 use Rattle.view.specs.declared.View.the-variants.{At, No}
 use Rattle.view.specs.Asked.{asked, askedBy, askedOf, askedFirst}
@@ -187,7 +187,7 @@ word-small edition k e w s b i = view-small (ruleWord k e w) edition k s (λ p a
 
 -- ---- nor one that a read with tables answers
 pub tables-small : (edition rules elements : ℕ) (s : List ℕ) → Bytes s → placeOf (readSays (editionOf edition) rules elements s) ≤ 60000
-unfolding pick
+unfolding pick inTables
 tables-small edition rules elements s b = by (editionOf edition) refl
   where
     read : (a : Answer (List Rule)) → placeOf (answered a) ≤ 60000 → placeOf (tabled rules elements a) ≤ 60000

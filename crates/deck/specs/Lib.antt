@@ -1,3 +1,3 @@
 pub mod Deck
-pub mod Cases
+pub mod Sample
 pub mod Written

@@ -2,4 +2,4 @@ pub mod Demand1
 pub mod Demand2
 pub mod Demand3
 pub mod RoundTrip
-pub mod Dates
+pub mod Cases

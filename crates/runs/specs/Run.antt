@@ -15,7 +15,7 @@ use Rattle.rule.specs.Rule.{Rule}
 use Rattle.deck.specs.Deck.{deck, readAs, read-writes-back, written-reads-back}
 use Rattle.deck.specs.Written.{written, written-as}
 use Rattle.buffer.specs.Laid.{laid, laid-start, take-laid, length-laid, laid-again, drop-laid}
-use Rattle.plan.specs.Edit.{Edit, Plan, become, refuse, refuseGiven, edited, inRoom, planned, says, leaves}
+use Rattle.plan.specs.Edit.{Edit, Plan, become, refuse, refuseGiven, edited, inRoom, planned, leaves}
 use Rattle.start.specs.Start.{startLeaves, start-laid, empty-long}
 use Rattle.runs.specs.Fits.{deck-fits, fits-deck, All}
 use Rattle.runs.specs.Kept.{Handed, edited-fits, in-room}

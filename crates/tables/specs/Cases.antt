@@ -12,7 +12,7 @@ use Rattle.kind.specs.Kinds.{has, rowIn, offered, rowOf}
 use Rattle.element.specs.Data.{plain, oneZero, simpleData}
 use Rattle.element.specs.Element.{identifier, element}
 use Rattle.rule.specs.Rule.{className, classHead, firstHead, head, placed, body, fromUnknown4, fromUnknown2, fields, rule}
-use Rattle.deck.specs.Cases.{ruleA}
+use Rattle.deck.specs.Sample.{ruleA}
 use Rattle.tables.specs.Tables.{rowsOf, ruleRows, elementRows, allElementRows}
 
 pub sample-tables : (ruleRows Studio 0 7 (ruleA ∷ []) ≡ 7 ∷ 70 ∷ 12 ∷ 1 ∷ []) × (allElementRows Studio 0 7 (ruleA ∷ []) ≡ 0x1F5 ∷ 0 ∷ 62 ∷ 70 ∷ [])

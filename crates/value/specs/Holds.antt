@@ -11,7 +11,7 @@ use Rattle.format.specs.declared.Read.the-variants.{Got}
 use Rattle.format.specs.Format.{got, Bytes, bytes-drop, Format}
 use Rattle.format.specs.Join.{pair, pairWrite, seq, _then_, judged, via}
 use Rattle.format.specs.Written.{seen-back}
-use Rattle.format.specs.Seen.{seen, told, told-got, itself}
+use Rattle.format.specs.Seen.{seen, told-got, itself}
 
 pub record Holds {A : Type 0} (a : Format A) (s : List ℕ) (at : ℕ) (x : A) : Type 0 where
   pub rest : List ℕ

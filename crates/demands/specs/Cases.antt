@@ -1,0 +1,174 @@
+-- The cases of document 01 that are marked P, as one computed table: decks, identifiers, dates.
+use Prim.Native.Nat.{ℕ, _+_, _-_, _*_}
+use mathlib.Core.Path.{_≡_, refl}
+use mathlib.Core.Bool.{Bool, true, false, not, _&&_}
+use mathlib.Core.List.{List, [], _∷_}
+use lib.ListN.{length}
+use lib.Dec.{T, eqb, leb, eqb→eq, leb→le}
+use lib.Ieee.Bits.{is-true}
+use lib.Ieee.Fits.{and-l, and-r}
+use borrow.Author.Tests.{not-true}
+use Rattle.format.specs.declared.Fault.the-variants as Fault
+use Rattle.format.specs.Fault.{numberOf}
+use Rattle.format.specs.Format.{Answer, got, refused, shift, mapped, andThen, pick, whole}
+use Rattle.format.specs.Join.{pair, pairRead, seq, _then_, judged, judgeOf, judge, via, home, atStart, nothing}
+use Rattle.format.specs.Number.{number, numberRead, within, count, fixed, bytes, flag, bit, value}
+use Rattle.format.specs.Each.{each, eachRead, counted, listed}
+use Rattle.format.specs.Sized.{sized, measured, weighed}
+use Rattle.civil.specs.Calendar.{leap, monthDays, monthsDays, yearsDays, dayOf}
+use Rattle.date.specs.Double.{negative, size, day, accepted}
+use Rattle.moment.specs.declared.Moment.{Moment}
+use Rattle.moment.specs.declared.Moment.the-variants as Moment
+use Rattle.moment.specs.Moment.{origin, dayIn, secondIn, Says}
+use Rattle.text.specs.Text.{extended, stringLength, string}
+use Rattle.kind.specs.declared.Role.the-variants.{Condition}
+use Rattle.kind.specs.declared.Kind.{Kind}
+use Rattle.kind.specs.declared.Kind.the-variants.{Simple}
+use Rattle.kind.specs.declared.Row.{Row}
+use Rattle.kind.specs.declared.Row.the-variants as Row
+use Rattle.kind.specs.Kinds.{editionOf, has, rowIn, offered, rowOf, rowBy, kindOf}
+use Rattle.element.specs.Data.{oneZero, simpleData}
+use Rattle.element.specs.Element.{identifier, element}
+use Rattle.rule.specs.Rule.{Rule, className, classHead, firstHead, head, placed, body, fromUnknown4, fromUnknown2, fields, rule}
+use Rattle.deck.specs.Deck.{mark, header, deck, readAs, readBy, readDeck}
+use Rattle.deck.specs.Sample.{sample}
+
+-- a number by its whole days and its further quarters of a day: whether it is negative, and its quarters
+abbrev pub plus : ℕ → ℕ → Bool × ℕ
+plus days quarters = (false, days * 4 + quarters)
+
+abbrev pub minus : ℕ → ℕ → Bool × ℕ
+minus days quarters = (true, days * 4 + quarters)
+
+-- what is asked: the deck check of an edition, an identifier in an edition, or a date, a number and the bits of its double
+pub data Asked : Type 0 where
+  deckOf : ℕ → List ℕ → Asked
+  identifierOf : ℕ → ℕ → Asked
+  dateOf : Bool × ℕ → ℕ → Asked
+
+-- what is answered: a number and a place (0 and the number of rules where the deck is accepted); a kind; year, month, day and second
+pub data Said : Type 0 where
+  says : ℕ → ℕ → Said
+  isKind : Kind → Said
+  on : ℕ → ℕ → ℕ → ℕ → Said
+
+abbrev pub ofDeck : Answer (List Rule) → Said
+ofDeck (got rs n) = says 0 (length rs)
+ofDeck (refused c p) = says (numberOf c) p
+
+abbrev pub ofRow : Row → Said
+ofRow (Row.Is k) = isKind k
+ofRow (Row.No c p) = says (numberOf c) p
+
+abbrev pub ofMoment : Moment → Said
+ofMoment (Moment.At c second) = on (c .year) (c .month) (c .day) second
+ofMoment (Moment.No c p) = says (numberOf c) p
+
+-- the definitions answer so; of a date, its bits are its number, and its promise allows a moment that says so
+abbrev pub Holds : Asked → Said → Type 0
+Holds (deckOf edition s) a = ofDeck (readDeck edition s) ≡ a
+Holds (identifierOf edition id) a = ofRow (kindOf edition id) ≡ a
+Holds (dateOf x bits) a = ((negative bits ≡ x .0) × (size bits * 4 ≡ x .1 * day)) × ((m : Moment) × (Says bits m × (ofMoment m ≡ a)))
+
+abbrev pub AllHold : List (Asked × Said) → Type 0
+AllHold [] = Unit {0}
+AllHold (c ∷ cs) = Holds (c .0) (c .1) × AllHold cs
+
+abbrev pub noon : ℕ
+noon = 12 * 3600
+
+abbrev pub six : ℕ
+six = 6 * 3600
+
+abbrev pub cases : List (Asked × Said)
+cases =
+    -- empty input 3 at 0
+    (deckOf 1 [], says 3 0)
+    ∷ (deckOf 2 [], says 3 0)
+    -- 52 44 4B 01 00 00 00 accepted
+    ∷ (deckOf 1 (0x52 ∷ 0x44 ∷ 0x4B ∷ 0x01 ∷ 0x00 ∷ 0x00 ∷ 0x00 ∷ []), says 0 0)
+    ∷ (deckOf 2 (0x52 ∷ 0x44 ∷ 0x4B ∷ 0x01 ∷ 0x00 ∷ 0x00 ∷ 0x00 ∷ []), says 0 0)
+    -- the deck above in both editions
+    ∷ (deckOf 1 sample, says 10 58)
+    ∷ (deckOf 2 sample, says 0 1)
+    -- F5 in Desk is a condition
+    ∷ (identifierOf 1 0xF5, isKind (Simple Condition))
+    -- 2F5 and 010000F5 answer 9
+    ∷ (identifierOf 1 0x2F5, says 9 0)
+    ∷ (identifierOf 2 0x2F5, says 9 0)
+    ∷ (identifierOf 1 0x010000F5, says 9 0)
+    ∷ (identifierOf 2 0x010000F5, says 9 0)
+    -- 2.5 is noon on 1 January 1900
+    ∷ (dateOf (plus 2 2) 0x4004_0000_0000_0000, on 1900 1 1 noon)
+    -- -1.25 is 06:00 on 29 December 1899
+    ∷ (dateOf (minus 1 1) 0xBFF4_0000_0000_0000, on 1899 12 29 six)
+    -- -0.25 is 06:00 on 30 December 1899
+    ∷ (dateOf (minus 0 1) 0xBFD0_0000_0000_0000, on 1899 12 30 six)
+    -- -657434.0 is 1 January 100
+    ∷ (dateOf (minus 657434 0) 0xC124_1034_0000_0000, on 100 1 1 0)
+    -- 2958465.5 is noon on 31 December 9999
+    ∷ (dateOf (plus 2958465 2) 0x4146_9240_C000_0000, on 9999 12 31 noon)
+    -- -657435.0 and 2958466.0 refused
+    ∷ (dateOf (minus 657435 0) 0xC124_1036_0000_0000, says 11 0)
+    ∷ (dateOf (plus 2958466 0) 0x4146_9241_0000_0000, says 11 0)
+    ∷ []
+
+-- ---- a date's case by tests
+abbrev saidTests : ℕ → Said → List Bool
+saidTests bits (on y m d second) =
+    accepted bits
+    ∷ eqb (dayOf (record { year = y; month = m; day = d })) (dayIn bits)
+    ∷ eqb second (secondIn bits)
+    ∷ leb 100 y
+    ∷ leb 1 m
+    ∷ leb m 12
+    ∷ leb 1 d
+    ∷ leb d (monthDays y (m - 1))
+    ∷ []
+saidTests bits (says n p) = not (accepted bits) ∷ eqb 11 n ∷ eqb 0 p ∷ []
+saidTests bits (isKind k) = false ∷ []
+
+abbrev tests : Bool × ℕ → ℕ → Said → List Bool
+tests x bits a = eqb (size bits * 4) (x .1 * day) ∷ saidTests bits a
+
+abbrev every : List Bool → Bool
+every [] = true
+every (b ∷ bs) = b && every bs
+
+abbrev All : List Bool → Type 0
+All [] = Unit {0}
+All (b ∷ bs) = T b × All bs
+
+all : (bs : List Bool) → T (every bs) → All bs
+all [] t = tt
+all (b ∷ bs) t = (and-l b (every bs) t, all bs (and-r b (every bs) t))
+
+said : (bits : ℕ) (a : Said) → All (saidTests bits a) → (m : Moment) × (Says bits m × (ofMoment m ≡ a))
+said bits (on y m d second) (a, (n, (t, (y100, (m1, (m12, (d1, (dn, u)))))))) = (
+  Moment.At (record { year = y; month = m; day = d }) second,
+  (
+    record {
+      accepts = is-true (accepted bits) a;
+      valid = record { year = leb→le 100 y y100; month-low = leb→le 1 m m1; month-high = leb→le m 12 m12; day-low = leb→le 1 d d1; day-high = leb→le d (monthDays y (m - 1)) dn };
+      on = eqb→eq (dayOf (record { year = y; month = m; day = d })) (dayIn bits) n;
+      at = eqb→eq second (secondIn bits) t;
+    },
+    refl,
+  ),
+)
+said bits (says n p) (a, (e, (z, u))) = (
+  Moment.No Fault.Date 0,
+  (
+    record { not-accepted = not-true (accepted bits) (is-true (not (accepted bits)) a); why = refl; start = refl },
+    rw (← eqb→eq 11 n e, ← eqb→eq 0 p z),
+  ),
+)
+said bits (isKind k) (a, u) = absurd a
+
+date : (x : Bool × ℕ) (bits : ℕ) (a : Said) → negative bits ≡ x .0 → T (every (tests x bits a)) → Holds (dateOf x bits) a
+date x bits a e t = let b = all (tests x bits a) t in ((e, eqb→eq (size bits * 4) (x .1 * day) (b .0)), said bits a (b .1))
+
+pub cases-hold : AllHold cases
+unfolding sample mark header deck whole readAs readBy readDeck className classHead firstHead head placed body fromUnknown4 fromUnknown2 fields rule identifier element oneZero simpleData editionOf has rowIn offered rowOf rowBy kindOf extended stringLength string sized measured weighed each eachRead counted listed number numberRead within count fixed bytes flag bit value pair pairRead seq _then_ judged judgeOf judge via home atStart nothing shift mapped andThen pick day leap monthsDays yearsDays dayOf origin dayIn secondIn
+cases-hold =
+    (refl, (refl, (refl, (refl, (refl, (refl, (refl, (refl, (refl, (refl, (refl, (date (plus 2 2) _ _ refl tt, (date (minus 1 1) _ _ refl tt, (date (minus 0 1) _ _ refl tt, (date (minus 657434 0) _ _ refl tt, (date (plus 2958465 2) _ _ refl tt, (date (minus 657435 0) _ _ refl tt, (date (plus 2958466 0) _ _ refl tt, tt))))))))))))))))))
