@@ -11,48 +11,28 @@ ghost use mathlib.Core.Bool.{true};
 ghost use lib.ListN.{length};
 ghost use lib.Ieee.{binary64, toBits};
 ghost use Prim.Native.Nat.{_+_, _≤_};
-ghost use Rattle.format.specs.Number.{spelt, bit};
+ghost use Rattle.buffer.specs.Laid.{putIn};
 ghost use Rattle.date.specs.Double.{accepted};
 ghost use Rattle.element.specs.Data.{plain, sizes, oneZero, markerData, simpleData, sizeData, limit, dateData};
 ghost use Rattle.put.specs.Plan.{shape, isOf, fromSpan, ifRoom, planData, planKind, plan, says, leaves};
-ghost use Rattle.put.specs.Put.{put, Does, limitOf, spanData};
-
-// k bytes of a number, the lowest first.
-fn put_number(buf: &mut [u8], at: usize, k: usize, n: u64)
-    requires { ⌜ at + k ≤ length (now buf) ⌝ }
-    ensures { λ _. ⌜ now (buf .exit) ≡ put (now (buf .entry)) at (spelt k n) ⌝ }
-{
-    let mut i = 0;
-    let mut rest = n;
-    while i < k {
-        buf[at + i] = (rest % 256) as u8;
-        rest = rest / 256;
-        i += 1;
-    }
-}
+ghost use Rattle.put.specs.Put.{Does, limitOf, spanData};
 
 // 1, 0: two words of 4 bytes, written as one number.
 fn put_one_zero(buf: &mut [u8])
-    requires { ⌜ 8 ≤ length (now buf) ⌝ }
-    ensures { λ _. ⌜ now (buf .exit) ≡ put (now (buf .entry)) 0 (oneZero .write tt) ⌝ }
+    ensures { λ _. ⌜ now (buf .exit) ≡ putIn (now (buf .entry)) 0 (oneZero .write tt) ⌝ }
 {
-    put_number(buf, 0, 8, 1);
+    buffer::put_number(buf, 0, 8, 1);
 }
 
-fn bit_of(yes: bool) -> u64
-    ensures { λ r. ⌜ r ≡ bit yes ⌝ }
-{
-    if yes { 1 } else { 0 }
-}
-
-// One end of a date span: flag and 0, written as one number, and the date.
+// One end of a date span: flag, 0 and the date.
 fn put_limit(buf: &mut [u8], at: usize, counts: bool, days: f64)
     requires { ⌜ at + 16 ≤ length (now buf) ⌝ }
     requires { ⌜ accepted (toBits binary64 days) ≡ true ⌝ }
-    ensures { λ _. ⌜ now (buf .exit) ≡ put (now (buf .entry)) at (limit .write (limitOf counts days)) ⌝ }
+    ensures { λ _. ⌜ now (buf .exit) ≡ putIn (now (buf .entry)) at (limit .write (limitOf counts days)) ⌝ }
 {
-    put_number(buf, at, 8, bit_of(counts));
-    put_number(buf, at + 8, 8, f64::to_bits(days));
+    buffer::put_flag(buf, at, counts);
+    buffer::put_number(buf, at + 4, 4, 0);
+    buffer::put_number(buf, at + 8, 8, f64::to_bits(days));
 }
 
 fn put_marker(buf: &mut [u8]) -> Outcome
@@ -62,7 +42,7 @@ fn put_marker(buf: &mut [u8]) -> Outcome
         return Outcome::No(Fault::Room, 0);
     }
     put_one_zero(buf);
-    put_number(buf, 8, 4, 1);
+    buffer::put_number(buf, 8, 4, 1);
     Outcome::Done(12)
 }
 
@@ -83,8 +63,8 @@ fn put_sizes(buf: &mut [u8], min: u32, max: u32) -> Outcome
         return Outcome::No(Fault::Room, 0);
     }
     put_one_zero(buf);
-    put_number(buf, 8, 4, min as u64);
-    put_number(buf, 12, 4, max as u64);
+    buffer::put_number(buf, 8, 4, min as u64);
+    buffer::put_number(buf, 12, 4, max as u64);
     Outcome::Done(16)
 }
 
