@@ -1,13 +1,13 @@
 -- Rows in a table, and a loop that fills one.
 use Prim.Native.Nat.{ℕ, suc, _+_, _*_, _^_, _<_, _≤_}
-use native.Mathlib.Nat.{add-zero, zero-add, add-assoc}
+use native.Mathlib.Nat.{add-zero, zero-add}
 use native.Mathlib.Omega.{arith}
 use mathlib.Core.Path.{_≡_, refl, sym, ap, ap₂, _∙_}
 use mathlib.Core.List.{List, [], _∷_, _++_, append-assoc}
 use mathlib.Core.Bool.{Bool, true, false}
 use lib.Dec.{eqb}
-use lib.ListN.{length, take, drop, set, length-append, length-drop, take-append-drop}
-use lib.Seq.{sets-eq, take-at, drop-at, drop-drop, length-take-le}
+use lib.ListN.{length, take, set, length-append}
+use lib.Seq.{sets-eq}
 use Rattle.format.specs.declared.Fault.{Fault}
 use Rattle.format.specs.declared.Read.{Read}
 use Rattle.format.specs.declared.Read.the-variants.{Got, No}
@@ -16,6 +16,7 @@ use Rattle.format.specs.Join.{pair, judged, via, seq, _then_}
 use Rattle.format.specs.Number.{number}
 use Rattle.format.specs.Seen.{seen, itself}
 use Rattle.format.specs.Rows.{total}
+use Rattle.buffer.specs.Laid.{put, put-none, put-length, put-on}
 use Rattle.format.specs.Back.{Ahead, Next, next, ahead-done, back-got, back-no, seen-fits}
 use Rattle.kind.specs.declared.Product.{Product}
 use Rattle.element.specs.Element.{Element, element, identifier, named}
@@ -23,34 +24,7 @@ use Rattle.rule.specs.Rule.{placed, separator}
 use Rattle.rule.specs.Places.{dataAt}
 use Rattle.tables.specs.Tables.{rowsOf, filled, elementRow, elementWidth}
 
--- the table with vs from k on
-unfoldable pub put : List ℕ → ℕ → List ℕ → List ℕ
-put t k vs = take k t ++ (vs ++ drop (k + length vs) t)
-
-pub put-none : (t : List ℕ) (k : ℕ) → put t k [] ≡ t
-unfolding put
-put-none t k = rw (add-zero, take-append-drop)
-
-pub length-put : (t : List ℕ) (k : ℕ) (vs : List ℕ) → k + length vs ≤ length t → length (put t k vs) ≡ length t
-unfolding put
-length-put t k vs h =
-    let a : k ≤ length t = omega arith in
-    simp (length-append, length-drop, length-take-le k t a) (omega arith)
-
-pub put-more : (t : List ℕ) (k : ℕ) (vs ws : List ℕ) → k + length vs ≤ length t → put t k (vs ++ ws) ≡ put (put t k vs) (k + length vs) ws
-unfolding put
-put-more t k vs ws h =
-    let a : k ≤ length t = omega arith in
-    let l : length (take k t ++ vs) ≡ k + length vs = simp (length-append, length-take-le k t a) in
-    let e : take k t ++ (vs ++ drop (k + length vs) t) ≡ (take k t ++ vs) ++ drop (k + length vs) t = sym (append-assoc (take k t) vs _) in
-    let d : drop (k + length vs + length ws) (take k t ++ (vs ++ drop (k + length vs) t)) ≡ drop (k + length vs + length ws) t =
-    ap (drop (k + length vs + length ws)) e ∙ sym (drop-drop (length ws) (k + length vs) _)
-    ∙ ap (drop (length ws)) (drop-at (take k t ++ vs) _ (k + length vs) l) ∙ drop-drop (length ws) (k + length vs) t in
-    let b : take (k + length vs) (take k t ++ (vs ++ drop (k + length vs) t)) ≡ take k t ++ vs =
-    ap (take (k + length vs)) e ∙ take-at (take k t ++ vs) _ (k + length vs) l in
-    rw (b, d) (simp (append-assoc, length-append, add-assoc))
-
--- four stores
+-- four stores in a table
 pub put-four : (t : List ℕ) (at a b c d : ℕ) → at + 4 ≤ length t → set (set (set (set t at a) (at + 1) b) (at + 2) c) (at + 3) d ≡ put t at (a ∷ b ∷ c ∷ d ∷ [])
 unfolding put
 put-four t at a b c d h =
@@ -95,9 +69,9 @@ module _ (vs ws : List ℕ) {rows whole t : List ℕ} {len k : ℕ} where
   filling-go {t₁} {k₁} f e h l =
       let r = filling-room f e in
       record {
-        long = ap length h ∙ length-put t k vs r ∙ f .long;
+        long = ap length h ∙ put-length t k vs r ∙ f .long;
         room = omega (arith, f .room, ap length e, length-append vs ws, l);
-        rest = ap₂ (λ (x : List ℕ) (n : ℕ). put x n ws) h l ∙ sym (put-more t k vs ws r) ∙ ap (put t k) (sym e) ∙ f .rest;
+        rest = ap₂ (λ (x : List ℕ) (n : ℕ). put x n ws) h l ∙ put-on t k vs ws (omega arith) ∙ ap (put t k) (sym e) ∙ f .rest;
       }
 
 pub filling-done : {rows whole t : List ℕ} {len k : ℕ} → Filling rows whole len t k → rows ≡ [] → t ≡ whole

@@ -12,13 +12,14 @@ use Rattle.format.specs.Seen.{seen, itself, none, unlike}
 use Rattle.format.specs.Rows.{total}
 use Rattle.format.specs.Written.{Stands}
 use Rattle.format.specs.Back.{Ahead, Next, next, back-got, back-no}
+use Rattle.buffer.specs.Laid.{put}
 use Rattle.kind.specs.declared.Product.{Product}
 use Rattle.text.specs.Text.{stringLength, string}
 use Rattle.element.specs.Element.{Element}
 use Rattle.rule.specs.Rule.{Rule, rule, body, head, placed, elementsIn}
 use Rattle.rule.specs.Places.{ruleBytes, elementsAt, body-parts, behind-count, rule-parts}
 use Rattle.tables.specs.Tables.{ruleRow, ruleRows, elementRow, elementRows, ruleElementRows, allElementRows, ruleWidth, elementWidth}
-use Rattle.tables.specs.Fill.{put, put-row, rows-long, total-one, rows-next, rows-done, Filling, filling-start, filling-room, filling-go, filling-done, ElementsFill}
+use Rattle.tables.specs.Fill.{put-row, rows-long, total-one, rows-next, rows-done, Filling, filling-start, filling-room, filling-go, filling-done, ElementsFill}
 
 -- ---- the number of a rule's elements, its head, its elements
 

@@ -14,6 +14,7 @@ use Rattle.format.specs.Join.{pair, pairWrite, via}
 use Rattle.format.specs.Each.{each, eachWrite, counted}
 use Rattle.format.specs.Rows.{total}
 use Rattle.format.specs.Back.{Ahead}
+use Rattle.buffer.specs.Laid.{put}
 use Rattle.kind.specs.declared.Product.{Product}
 use Rattle.kind.specs.declared.Edition.{Edition}
 use Rattle.kind.specs.declared.Edition.the-variants as Edition
@@ -23,7 +24,7 @@ use Rattle.deck.specs.declared.Scan.{Scan}
 use Rattle.deck.specs.declared.Scan.the-variants as Scan
 use Rattle.deck.specs.Deck.{header, header-length, deck, deck-row, readAs, readBy, readDeck, scanned, Whole, read-writes-back, deck-small}
 use Rattle.tables.specs.Tables.{ruleWidth, elementWidth, ruleRows, allElementRows, tabled, filled, rulesLeft, elementsLeft, readSays, rulesAfter, elementsAfter}
-use Rattle.tables.specs.Fill.{put, put-front}
+use Rattle.tables.specs.Fill.{put-front}
 use Rattle.tables.specs.Parts.{RulesFill, rule-rows-long, all-rows-long}
 
 -- behind its header stand the rules, to the last byte

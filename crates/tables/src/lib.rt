@@ -9,10 +9,11 @@ ghost use mathlib.Core.Path.{_≡_};
 ghost use mathlib.Core.List.{[], _∷_};
 ghost use Prim.Native.Nat.{_≤_, _<_, _+_, _^_};
 ghost use lib.ListN.{length};
+ghost use Rattle.buffer.specs.Laid.{put};
 ghost use Rattle.kind.specs.Kinds.{editionOf};
 ghost use Rattle.rule.specs.Places.{dataAt};
 ghost use Rattle.tables.specs.Tables.{readSays, rulesAfter, elementsAfter};
-ghost use Rattle.tables.specs.Fill.{put, Below, ElementsFill};
+ghost use Rattle.tables.specs.Fill.{Below, ElementsFill};
 ghost use Rattle.tables.specs.Parts.{BodyFill, RuleFill, RulesFill};
 
 // The numbers of a row.
