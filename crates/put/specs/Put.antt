@@ -31,11 +31,11 @@ use Rattle.kind.specs.declared.Kind.the-variants as Kind
 use Rattle.value.specs.declared.Span.{Span}
 use Rattle.value.specs.declared.Value.{Value}
 use Rattle.value.specs.declared.Value.the-variants as Value
-use Rattle.put.specs.Plan.{afterOf, beforeOf, fromSpan, shape, isOf, fromValue, planData, planKind, plan, Plan, refuse, ifRoom, says, leaves}
+use Rattle.put.specs.Plan.{afterOf, beforeOf, fromSpan, shape, isOf, fromValue, planData, planKind, putting, Putting, deny, ifRoom, putSays, putLeaves}
 
 -- what a plan is to the answer and the buffer
-abbrev pub Does : List ℕ → Plan → Outcome → List ℕ → Type 0
-Does xs p r ys = (r ≡ says p) × (ys ≡ leaves xs p)
+abbrev pub Puts : List ℕ → Putting → Outcome → List ℕ → Type 0
+Puts xs p r ys = (r ≡ putSays p) × (ys ≡ putLeaves xs p)
 
 abbrev pub limitOf : Bool → Float → Limit
 limitOf b x = record { set = b; at = toBits binary64 x }
@@ -90,19 +90,19 @@ span-long l m = refl
 -- ---- a plan that is carried out, and one that is not
 
 module _ (xs bs : List ℕ) {n : ℕ} where
-  pub no-room : length bs ≡ n → length xs < n → Does xs (ifRoom (length xs) bs) (Outcome.No Fault.Room 0) xs
-  unfolding ifRoom says leaves pick
+  pub no-room : length bs ≡ n → length xs < n → Puts xs (ifRoom (length xs) bs) (Outcome.No Fault.Room 0) xs
+  unfolding ifRoom putSays putLeaves pick
   no-room e h = let t = lt-leb (length bs) (length xs) (omega arith) in (rw t, rw t)
 
-  pub all-put : {ys : List ℕ} → ys ≡ putIn xs 0 bs → length bs ≡ n → n ≤ length xs → Does xs (ifRoom (length xs) bs) (Outcome.Done n) ys
-  unfolding ifRoom says leaves pick put
+  pub all-put : {ys : List ℕ} → ys ≡ putIn xs 0 bs → length bs ≡ n → n ≤ length xs → Puts xs (ifRoom (length xs) bs) (Outcome.Done n) ys
+  unfolding ifRoom putSays putLeaves pick put
   all-put o e h =
       let t = le-leb (length bs) (length xs) (omega arith) in
       let w = o ∙ put-in xs 0 bs (omega arith) in
       (rw (t, e), rw t (rw zero-add at w))
 
-pub not-put : (xs : List ℕ) (o : Outcome) → Does xs (refuse o) o xs
-unfolding says leaves
+pub not-put : (xs : List ℕ) (o : Outcome) → Puts xs (deny o) o xs
+unfolding putSays putLeaves
 not-put xs o = (refl, refl)
 
 -- ---- whether a value is of a kind
@@ -125,16 +125,16 @@ module _ (k : Kind) (id : ℕ) (v : Value) {n j : ℕ} where
 -- ---- a span, by what its dates were judged
 
 module _ (xs : List ℕ) (v : Span) {t : Bool} (e : t ≡ accepted (toBits binary64 (v .after))) where
-  pub after-off : t ≡ false → Does xs (planData dateData (length xs) (fromSpan v)) (Outcome.Given Fault.Date 16) xs
+  pub after-off : t ≡ false → Puts xs (planData dateData (length xs) (fromSpan v)) (Outcome.Given Fault.Date 16) xs
   unfolding fromSpan pick
   after-off h = rw (← e, h) (not-put xs (Outcome.Given Fault.Date 16))
 
-  pub before-off : {u : Bool} → t ≡ true → u ≡ accepted (toBits binary64 (v .before)) → u ≡ false → Does xs (planData dateData (length xs) (fromSpan v)) (Outcome.Given Fault.Date 32) xs
+  pub before-off : {u : Bool} → t ≡ true → u ≡ accepted (toBits binary64 (v .before)) → u ≡ false → Puts xs (planData dateData (length xs) (fromSpan v)) (Outcome.Given Fault.Date 32) xs
   unfolding fromSpan pick
   before-off h f g = rw (← e, h, ← f, g) (not-put xs (Outcome.Given Fault.Date 32))
 
   pub span-put-by : {u : Bool} {r : Outcome} {ys : List ℕ} → t ≡ true → u ≡ accepted (toBits binary64 (v .before)) → u ≡ true
-      → Does xs (ifRoom (length xs) (dateData .write (spanData v))) r ys → Does xs (planData dateData (length xs) (fromSpan v)) r ys
+      → Puts xs (ifRoom (length xs) (dateData .write (spanData v))) r ys → Puts xs (planData dateData (length xs) (fromSpan v)) r ys
   unfolding fromSpan pick
   span-put-by h f g o = rw (← e, h, ← f, g) o
 
@@ -172,7 +172,7 @@ of-shape k id (Value.Size a b) h = eqb-true (shape k) 4 h
 of-shape k id (Value.Dates v) h = eqb-true (shape k) 5 h
 
 module _ (k : Kind) (id : ℕ) (xs : List ℕ) (v : Value) {t : Bool} (e : t ≡ isOf k id v) where
-  pub of-none : not t ≡ true → Does xs (planKind k id v (length xs)) (Outcome.Given Fault.Field 0) xs
+  pub of-none : not t ≡ true → Puts xs (planKind k id v (length xs)) (Outcome.Given Fault.Field 0) xs
   unfolding planKind pick
   of-none h = rw (← e, not-true t h) (not-put xs (Outcome.Given Fault.Field 0))
 
@@ -183,22 +183,22 @@ module _ (k : Kind) (id : ℕ) (xs : List ℕ) (v : Value) {t : Bool} (e : t ≡
       let z : dataOf k ≡ formatBy (shapeOf v) = shaped k ∙ ap formatBy (of-shape k id v y) in
       rw (y, z, f)
 
-  pub of-put : (w : Value) {r : Outcome} {ys : List ℕ} → not t ≡ false → v ≡ w → Does xs (planData (formatBy (shapeOf w)) (length xs) (fromValue w)) r ys → Does xs (planKind k id v (length xs)) r ys
+  pub of-put : (w : Value) {r : Outcome} {ys : List ℕ} → not t ≡ false → v ≡ w → Puts xs (planData (formatBy (shapeOf w)) (length xs) (fromValue w)) r ys → Puts xs (planKind k id v (length xs)) r ys
   of-put w h f o = rw (of-case w h f) o
 
 -- ---- a value, by edition and identifier
 
 module _ (edition id : ℕ) (xs : List ℕ) (v : Value) {e : Edition} where
-  pub put-none-in : e ≡ editionOf edition → e ≡ Edition.Unknown → Does xs (plan edition id v (length xs)) (Outcome.No Fault.Edition 0) xs
-  unfolding plan
+  pub put-none-in : e ≡ editionOf edition → e ≡ Edition.Unknown → Puts xs (putting edition id v (length xs)) (Outcome.No Fault.Edition 0) xs
+  unfolding putting
   put-none-in f h = rw (← f, h) (not-put xs (Outcome.No Fault.Edition 0))
 
   module _ {p : Product} {w : Row} where
-    pub put-off : {c : Fault} {q : ℕ} → e ≡ editionOf edition → e ≡ Edition.Of p → w ≡ rowOf p id → w ≡ Row.No c q → Does xs (plan edition id v (length xs)) (Outcome.Given c q) xs
-    unfolding plan
+    pub put-off : {c : Fault} {q : ℕ} → e ≡ editionOf edition → e ≡ Edition.Of p → w ≡ rowOf p id → w ≡ Row.No c q → Puts xs (putting edition id v (length xs)) (Outcome.Given c q) xs
+    unfolding putting
     put-off {c} {q} f h g i = rw (← f, h, ← g, i) (not-put xs (Outcome.Given c q))
 
     pub put-of : {k : Kind} {r : Outcome} {ys : List ℕ} → e ≡ editionOf edition → e ≡ Edition.Of p → w ≡ rowOf p id → w ≡ Row.Is k
-        → Does xs (planKind k id v (length xs)) r ys → Does xs (plan edition id v (length xs)) r ys
-    unfolding plan
+        → Puts xs (planKind k id v (length xs)) r ys → Puts xs (putting edition id v (length xs)) r ys
+    unfolding putting
     put-of f h g i o = rw (← f, h, ← g, i) o

@@ -14,8 +14,8 @@ ghost use Prim.Native.Nat.{_+_, _≤_};
 ghost use Rattle.buffer.specs.Laid.{putIn};
 ghost use Rattle.date.specs.Double.{accepted};
 ghost use Rattle.element.specs.Data.{plain, sizes, oneZero, markerData, simpleData, sizeData, limit, dateData};
-ghost use Rattle.put.specs.Plan.{shape, isOf, fromSpan, ifRoom, planData, planKind, plan, says, leaves};
-ghost use Rattle.put.specs.Put.{Does, limitOf, spanData};
+ghost use Rattle.put.specs.Plan.{shape, isOf, fromSpan, ifRoom, planData, planKind, putting, putSays, putLeaves};
+ghost use Rattle.put.specs.Put.{Puts, limitOf, spanData};
 
 // 1, 0: two words of 4 bytes, written as one number.
 fn put_one_zero(buf: &mut [u8])
@@ -36,7 +36,7 @@ fn put_limit(buf: &mut [u8], at: usize, counts: bool, days: f64)
 }
 
 fn put_marker(buf: &mut [u8]) -> Outcome
-    ensures { λ r. ⌜ Does (now (buf .entry)) (ifRoom (length (now (buf .entry))) (markerData .write plain)) r (now (buf .exit)) ⌝ }
+    ensures { λ r. ⌜ Puts (now (buf .entry)) (ifRoom (length (now (buf .entry))) (markerData .write plain)) r (now (buf .exit)) ⌝ }
 {
     if buf.len() < 12 {
         return Outcome::No(Fault::Room, 0);
@@ -47,7 +47,7 @@ fn put_marker(buf: &mut [u8]) -> Outcome
 }
 
 fn put_simple(buf: &mut [u8]) -> Outcome
-    ensures { λ r. ⌜ Does (now (buf .entry)) (ifRoom (length (now (buf .entry))) (simpleData .write plain)) r (now (buf .exit)) ⌝ }
+    ensures { λ r. ⌜ Puts (now (buf .entry)) (ifRoom (length (now (buf .entry))) (simpleData .write plain)) r (now (buf .exit)) ⌝ }
 {
     if buf.len() < 8 {
         return Outcome::No(Fault::Room, 0);
@@ -57,7 +57,7 @@ fn put_simple(buf: &mut [u8]) -> Outcome
 }
 
 fn put_sizes(buf: &mut [u8], min: u32, max: u32) -> Outcome
-    ensures { λ r. ⌜ Does (now (buf .entry)) (ifRoom (length (now (buf .entry))) (sizeData .write (sizes min max))) r (now (buf .exit)) ⌝ }
+    ensures { λ r. ⌜ Puts (now (buf .entry)) (ifRoom (length (now (buf .entry))) (sizeData .write (sizes min max))) r (now (buf .exit)) ⌝ }
 {
     if buf.len() < 16 {
         return Outcome::No(Fault::Room, 0);
@@ -70,7 +70,7 @@ fn put_sizes(buf: &mut [u8], min: u32, max: u32) -> Outcome
 
 fn put_span(buf: &mut [u8], span: Span) -> Outcome
     requires { ⌜ (accepted (toBits binary64 (span .after)) ≡ true) × (accepted (toBits binary64 (span .before)) ≡ true) ⌝ }
-    ensures { λ r. ⌜ Does (now (buf .entry)) (ifRoom (length (now (buf .entry))) (dateData .write (spanData span))) r (now (buf .exit)) ⌝ }
+    ensures { λ r. ⌜ Puts (now (buf .entry)) (ifRoom (length (now (buf .entry))) (dateData .write (spanData span))) r (now (buf .exit)) ⌝ }
 {
     if buf.len() < 40 {
         return Outcome::No(Fault::Room, 0);
@@ -83,7 +83,7 @@ fn put_span(buf: &mut [u8], span: Span) -> Outcome
 
 // 43 before 20.
 fn put_dates(buf: &mut [u8], span: Span) -> Outcome
-    ensures { λ r. ⌜ Does (now (buf .entry)) (planData dateData (length (now (buf .entry))) (fromSpan span)) r (now (buf .exit)) ⌝ }
+    ensures { λ r. ⌜ Puts (now (buf .entry)) (planData dateData (length (now (buf .entry))) (fromSpan span)) r (now (buf .exit)) ⌝ }
 {
     if date::in_range(span.after) {
         if date::in_range(span.before) {
@@ -122,7 +122,7 @@ fn is_of(kind: Kind, identifier: u32, value: Value) -> bool
 
 // A value as the data of a kind: 40 first.
 fn put_as(kind: Kind, identifier: u32, value: Value, buf: &mut [u8]) -> Outcome
-    ensures { λ r. ⌜ Does (now (buf .entry)) (planKind kind identifier value (length (now (buf .entry)))) r (now (buf .exit)) ⌝ }
+    ensures { λ r. ⌜ Puts (now (buf .entry)) (planKind kind identifier value (length (now (buf .entry)))) r (now (buf .exit)) ⌝ }
 {
     if !is_of(kind, identifier, value) {
         return Outcome::Given(Fault::Field, 0);
@@ -138,7 +138,7 @@ fn put_as(kind: Kind, identifier: u32, value: Value, buf: &mut [u8]) -> Outcome
 
 // A value as the data of an identifier in an edition, written at the start of a buffer.
 pub fn put_value(edition: u64, identifier: u32, value: Value, buf: &mut [u8]) -> Outcome
-    ensures { λ r. ⌜ (r ≡ says (plan edition identifier value (length (now (buf .entry))))) × (now (buf .exit) ≡ leaves (now (buf .entry)) (plan edition identifier value (length (now (buf .entry))))) ⌝ }
+    ensures { λ r. ⌜ (r ≡ putSays (putting edition identifier value (length (now (buf .entry))))) × (now (buf .exit) ≡ putLeaves (now (buf .entry)) (putting edition identifier value (length (now (buf .entry))))) ⌝ }
 {
     let e = kind::edition_of(edition);
     let Edition::Of(product) = e else {
