@@ -4,16 +4,15 @@ use native.Mathlib.Omega.{arith}
 use native.Mathlib.Nat.{zero-add}
 use mathlib.Core.Path.{_≡_, refl, sym, ap, _∙_}
 use mathlib.Core.List.{List, [], _∷_, _++_, append-assoc, append-nil}
-use lib.ListN.{length, take, drop, length-append, length-drop, drop-of-length-le, take-append-drop}
-use lib.Seq.{length-take-le, take-add, drop-at}
-use borrow.Author.Tests.{lt-ltb, le-ltb}
+use lib.ListN.{length, take, drop, length-append, take-append-drop}
+use lib.Seq.{length-take-le, drop-at}
 use Rattle.format.specs.declared.Fault.{Fault}
 use Rattle.format.specs.declared.Fault.the-variants as Fault
 use Rattle.format.specs.declared.Outcome.{Outcome}
 use Rattle.format.specs.declared.Outcome.the-variants as Outcome
 use Rattle.format.specs.declared.Read.{Read}
 use Rattle.format.specs.declared.Read.the-variants as Read
-use Rattle.format.specs.Format.{Answer, got, refused, Bytes, pick}
+use Rattle.format.specs.Format.{refused, Bytes}
 use Rattle.format.specs.Number.{number, spelt, length-spelt}
 use Rattle.format.specs.Each.{eachWrite, each-append}
 use Rattle.format.specs.Seen.{seen, itself, told, none, told-got, told-no}
@@ -27,14 +26,15 @@ use Rattle.rule.specs.Rule.{Rule, placed, rule-fits}
 use Rattle.rule.specs.Parts.{kept, front, front-long, back, back-long, headBytes, inner, sizeOf}
 use Rattle.deck.specs.Written.{written, before, rules, startOf}
 use Rattle.buffer.specs.Laid.{putIn, put-both}
-use Rattle.buffer.specs.Holds.{Holds, holds-start, holds-put}
+use Rattle.buffer.specs.Holds.{Holds, holds-put, holds-behind}
 use Rattle.locate.specs.Located.{lastOf}
-use Rattle.locate.specs.Steps.{Here, here, nameEnd, name-end}
+use Rattle.locate.specs.Steps.{Here, nameEnd}
 use Rattle.plan.specs.Given.{given}
 use Rattle.plan.specs.Element.{later-written}
-use Rattle.plan.specs.Edit.{Plan, become, refuse, refuseGiven, addElement, edited, holding, atLast, unlessFull, atGiven}
+use Rattle.plan.specs.Edit.{Plan, become, addElement, edited, holding, unlessFull, atGiven}
 use Rattle.plan.specs.Found.{MakesAs, Does}
-use Rattle.plan.specs.Makes.{here-in, sound-small, replaced-long, written-here, made-no, made-given, made-large, made-room, made-is}
+use Rattle.plan.specs.Last.{rules-none, among, as-many, on-none, on-last}
+use Rattle.plan.specs.Makes.{written-here, full, not-full, at-given, no-given, made-no, made-given, made-large, made-room, made-is}
 
 -- 8001, the identifier, the data
 unfoldable pub laterBytes : ℕ → List ℕ → List ℕ
@@ -54,18 +54,6 @@ later-put d at id s e f h =
     put-both d at (spelt 2 0x8001) (spelt 4 id ++ s) e f (omega arith) (omega arith)
 
 -- ---- the last rule
-
-pub rules-none : (i : ℕ) → rules i [] ≡ []
-unfolding rules eachWrite
-rules-none i = refl
-
--- nothing is behind it
-pub last-rule : {p : Product} {s : List ℕ} {rs : List Rule} {k : ℕ} (h : Here p s rs k) → length rs ≡ k + 1 → h .later ≡ []
-last-rule {rs = rs} {k = k} h e = go (h .later) (h .from)
-  where
-    go : (ys : List Rule) → drop k rs ≡ h .r ∷ ys → ys ≡ []
-    go [] f = refl
-    go (y ∷ ys) f = absurd (omega (arith, length-drop k rs, ap length f))
 
 module _ (n : ℕ) (d : List ℕ) {p : Product} {rs : List Rule} {k : ℕ} (h : Here p (take n d) rs k) (z : h .later ≡ []) (w : n ≤ length d) where
   -- the deck, to its end
@@ -92,11 +80,8 @@ module _ (n : ℕ) (d : List ℕ) {p : Product} {rs : List Rule} {k : ℕ} (h : 
         let F = front (h .r) in
         let P = B ++ F in
         let R = headBytes k ++ (inner els ++ E) in
-        let G = take (length E) (drop n d) in
-        let t : take (n + length E) d ≡ take n d ++ (G ++ []) = take-add n (length E) d ∙ rw append-nil in
-        let h₁ = holds-put (take n d) G [] E (holds-start d (n + length E) l) t (length-take-le n d w) (length-take-le (length E) (drop n d) (omega (arith, length-drop n d))) e₁ in
-        let i : take n d ++ (E ++ []) ≡ P ++ (spelt 4 (sizeOf k els) ++ (spelt 2 (length els) ++ R)) = rw (last-is, append-nil) (simp append-assoc) in
-        let h₂ = holds-put P (spelt 4 (sizeOf k els)) (spelt 2 (length els) ++ R) (spelt 4 S) h₁ i front-ends (length-spelt 4 (sizeOf k els) ∙ sym (length-spelt 4 S)) e₂ in
+        let i : take n d ++ E ≡ P ++ (spelt 4 (sizeOf k els) ++ (spelt 2 (length els) ++ R)) = rw last-is (simp append-assoc) in
+        let h₂ = holds-put P (spelt 4 (sizeOf k els)) (spelt 2 (length els) ++ R) (spelt 4 S) (holds-behind d n E l e₁) i front-ends (length-spelt 4 (sizeOf k els) ∙ sym (length-spelt 4 S)) e₂ in
         let j : P ++ (spelt 4 S ++ (spelt 2 (length els) ++ R)) ≡ (P ++ spelt 4 S) ++ (spelt 2 (length els) ++ R) = sym (append-assoc P (spelt 4 S) (spelt 2 (length els) ++ R)) in
         let l₃ : length (P ++ spelt 4 S) ≡ e + 24 = omega (arith, length-append P (spelt 4 S), front-ends, length-spelt 4 S) in
         let h₃ = holds-put (P ++ spelt 4 S) (spelt 2 (length els)) R (spelt 2 C) h₂ j l₃ (length-spelt 2 (length els) ∙ sym (length-spelt 2 C)) e₃ in
@@ -143,23 +128,17 @@ module _ (n e c id : ℕ) (s d : List ℕ) where
       let E = laterBytes id s in
       omega (arith, length-append B (F ++ (spelt 4 S ++ (spelt 2 C ++ (headBytes k ++ (I ++ E))))), length-append F (spelt 4 S ++ (spelt 2 C ++ (headBytes k ++ (I ++ E)))), length-append (spelt 4 S) (spelt 2 C ++ (headBytes k ++ (I ++ E))), length-append (spelt 2 C) (headBytes k ++ (I ++ E)), length-append (headBytes k) (I ++ E), length-append I E, length-append B F, length-spelt 4 S, length-spelt 2 C, later-long id s, front-ends n d h z w g, size-ends n d h z w g)
 
-  within : {p : Product} {rs : List Rule} {k : ℕ} (h : Here p (take n d) rs k) → k < length rs
-  within {rs = rs} {k = k} h = omega (arith, length-drop k rs, ap length (h .from))
-
-  as-many : {p : Product} {rs : List Rule} {k : ℕ} (x : Rule) (h : Here p (take n d) rs k) → h .later ≡ [] → length (take k rs ++ (x ∷ [])) ≡ length rs
-  as-many {rs = rs} {k = k} x h z = replaced-long rs [] k (h .r) x (h .from ∙ rw z)
-
   pub grow-large : 60000 < n + 6 + length s → Grows n e c id s d (Outcome.No Fault.Large 0) d
   unfolding Grows
   grow-large l p rs k x h z w f g cs b =
-      let t = grown-written x h z w g cs b (within h) in
-      made-large n d refl (rw (as-many _ h z) f) (rw t (rw (grown-long h _ _ z w g) l))
+      let t = grown-written x h z w g cs b (among h) in
+      made-large n d refl (rw (as-many h _ z) f) (rw t (rw (grown-long h _ _ z w g) l))
 
   pub grow-room : n + 6 + length s ≤ 60000 → length d < n + 6 + length s → Grows n e c id s d (Outcome.No Fault.Room 0) d
   unfolding Grows
   grow-room l m p rs k x h z w f g cs b =
-      let t = grown-written x h z w g cs b (within h) in
-      made-room n d refl (rw (as-many _ h z) f) (rw t (rw (grown-long h _ _ z w g) l)) (rw t (rw (grown-long h _ _ z w g) m))
+      let t = grown-written x h z w g cs b (among h) in
+      made-room n d refl (rw (as-many h _ z) f) (rw t (rw (grown-long h _ _ z w g) l)) (rw t (rw (grown-long h _ _ z w g) m))
 
   -- never, of a sound deck
   pub grow-short : (r : Outcome) (d′ : List ℕ) → n + 6 + length s < e + 24 → Grows n e c id s d r d′
@@ -171,34 +150,10 @@ module _ (n e c id : ℕ) (s d : List ℕ) where
   unfolding Grows
   grow-done l m e₁ e₂ e₃ p rs k x h z w f g cs b =
       let E = later-long id s in
-      made-is n d (grown-holds n d h z w g (laterBytes id s) _ _ (omega arith) e₁ e₂ e₃) refl (sym (grown-written x h z w g cs b (within h)))
-      (grown-long h _ _ z w g) (omega arith) (rw (as-many _ h z) f) l
+      made-is n d (grown-holds n d h z w g (laterBytes id s) _ _ (omega arith) e₁ e₂ e₃) refl (sym (grown-written x h z w g cs b (among h)))
+      (grown-long h _ _ z w g) (omega arith) (rw (as-many h _ z) f) l
 
 -- ---- what is judged before
-
-pub at-last : (rs : List Rule) (k : ℕ) {r : Rule} {later : List Rule} (f : Rule → Plan) → drop k rs ≡ r ∷ later → atLast (drop k rs) f ≡ f r
-unfolding atLast
-at-last rs k f e = rw e
-
-pub no-last : (rs : List Rule) (f : Rule → Plan) → length rs ≡ 0 → atLast (drop (length rs - 1) rs) f ≡ refuse Fault.Last 0
-unfolding atLast
-no-last rs f l = let e : drop (length rs - 1) rs ≡ [] = drop-of-length-le rs {i = length rs - 1} (omega arith) in rw e
-
-pub full : (c : ℕ) (q : Plan) → 64 ≤ c → unlessFull c q ≡ refuse Fault.Full 0
-unfolding unlessFull pick
-full c q l = rw (le-ltb c 64 l)
-
-pub not-full : (c : ℕ) (q : Plan) → c < 64 → unlessFull c q ≡ q
-unfolding unlessFull pick
-not-full c q l = rw (lt-ltb c 64 l)
-
-pub at-given : {a : Answer Element} (f : Element → Plan) {x : Element} {l : ℕ} → a ≡ got x l → atGiven a f ≡ f x
-unfolding atGiven
-at-given f e = rw e
-
-pub no-given : {a : Answer Element} (f : Element → Plan) {c : Fault} {q : ℕ} → a ≡ refused c q → atGiven a f ≡ refuseGiven c q
-unfolding atGiven
-no-given f e = rw e
 
 -- the number of elements stands behind Data Size
 pub count-stands : (n : ℕ) (d : List ℕ) {p : Product} {rs : List Rule} {k e : ℕ} (h : Here p (take n d) rs k) → n ≤ length d → e ≡ startOf rs k + 4 + length (string .write (h .r .name))
@@ -213,43 +168,38 @@ count-stands n d {p} {rs} {k} {e} h w g =
     let l : length P ≡ e + 24 = omega (arith, length-append B (front (h .r) ++ spelt 4 (sizeOf k els)), length-append (front (h .r)) (spelt 4 (sizeOf k els)), length-spelt 4 (sizeOf k els), h .starts, front-long (h .r), g) in
     (u, record { fit = omega (arith, rule-fits p k (h .r) (h .fits)); is = ap (drop (e + 24)) i ∙ drop-at P (spelt 2 (length els) ++ u) (e + 24) l })
 
+-- the last rule with an element more
+abbrev withMore : Product → ℕ → List ℕ → List Rule → ℕ → Rule → Plan
+withMore p id s rs k r = unlessFull (length (r .elements)) (atGiven (given p id s) λ x. become (take k rs ++ (holding (r .elements ++ (x ∷ [])) r ∷ [])))
+
 -- z is what the number of elements was read as, g what the element was judged as
 module _ (p : Product) (n m a id : ℕ) (s d : List ℕ) where
   pub element-none : m ≡ 0 → MakesAs p lastOf n m a (addElement id s) d (Outcome.No Fault.Last 0) d
-  unfolding MakesAs edited
-  element-none e rs o w em ea = made-no n d (no-last rs _ (omega arith))
-
-  -- whatever the last rule is
-  on-last : {e : ℕ} (r : Outcome) (d′ : List ℕ) → (m ≡ 0 → ⊥) → e ≡ nameEnd d a
-      → ((rs : List Rule) (k : ℕ) (h : Here p (take n d) rs k) → h .later ≡ [] → n ≤ length d → length rs ≤ 256 → e ≡ startOf rs k + 4 + length (string .write (h .r .name))
-      → Does n (unlessFull (length (h .r .elements)) (atGiven (given p id s) λ x. become (take k rs ++ (holding (h .r .elements ++ (x ∷ [])) (h .r) ∷ [])))) d r d′)
-      → MakesAs p lastOf n m a (addElement id s) d r d′
-  unfolding MakesAs edited
-  on-last {e} r d′ l g f rs o w em ea = go (here p (take n d) rs (length rs - 1) o (omega arith))
-    where
-      go : Here p (take n d) rs (length rs - 1) → Does n (edited p (addElement id s) rs) d r d′
-      go h = let e′ : e ≡ startOf rs (length rs - 1) + 4 + length (string .write (h .r .name)) = rw ea at g ∙ name-end d (startOf rs (length rs - 1)) p (length rs - 1) (h .r) (here-in n d h) in
-          rw (at-last rs (length rs - 1) _ (h .from)) (f rs (length rs - 1) h (last-rule h (omega arith)) w (sound-small n d o) e′)
+  unfolding edited
+  element-none e = on-none p n m a d (addElement id s) (withMore p id s) (λ rs. refl) e
 
   module _ {e : ℕ} {z : Read} where
-    pub element-cut : (r : Outcome) (d′ : List ℕ) {c : Fault} {q : ℕ} → (m ≡ 0 → ⊥) → e ≡ nameEnd d a → z ≡ seen itself (number 2) d (e + 24) → z ≡ Read.No c q → MakesAs p lastOf n m a (addElement id s) d r d′
-    element-cut r d′ l g f k = on-last r d′ l g (λ rs i h y w v o. back-no itself (number 2) d (e + 24) (count-stands n d h w o .1) f k)
+    pub element-uncounted : (r : Outcome) (d′ : List ℕ) {c : Fault} {q : ℕ} → (m ≡ 0 → ⊥) → e ≡ nameEnd d a → z ≡ seen itself (number 2) d (e + 24) → z ≡ Read.No c q → MakesAs p lastOf n m a (addElement id s) d r d′
+    unfolding edited
+    element-uncounted r d′ l g f k = on-last p n m a d (addElement id s) (withMore p id s) (λ rs. refl) r d′ l g (λ rs h y w v o. back-no itself (number 2) d (e + 24) (count-stands n d h w o .1) f k)
 
     module _ {c q : ℕ} where
       pub element-full : (m ≡ 0 → ⊥) → e ≡ nameEnd d a → z ≡ seen itself (number 2) d (e + 24) → z ≡ Read.Got c q → 64 ≤ c → MakesAs p lastOf n m a (addElement id s) d (Outcome.No Fault.Full 0) d
-      element-full l g f k t = on-last _ _ l g (λ rs i h y w v o. let b = back-got itself (number 2) d (e + 24) (count-stands n d h w o .1) f k in made-no n d (full _ _ (rw (b .0) at t)))
+      unfolding edited
+      element-full l g f k t = on-last p n m a d (addElement id s) (withMore p id s) (λ rs. refl) _ _ l g (λ rs h y w v o. let b = back-got itself (number 2) d (e + 24) (count-stands n d h w o .1) f k in made-no n d (full _ _ (rw (b .0) at t)))
 
       module _ {t : Read} where
         pub element-given : {x : Fault} {o : ℕ} → (m ≡ 0 → ⊥) → e ≡ nameEnd d a → z ≡ seen itself (number 2) d (e + 24) → z ≡ Read.Got c q → c < 64 → t ≡ told 0 none (given p id s) → t ≡ Read.No x o → MakesAs p lastOf n m a (addElement id s) d (Outcome.Given x o) d
+        unfolding edited
         element-given {x} {o} l g f k j gt th =
             let u = told-no 0 none (given p id s) gt th in
-            on-last _ _ l g (λ rs i h y w v e′. let b = back-got itself (number 2) d (e + 24) (count-stands n d h w e′ .1) f k in made-given n d (not-full _ _ (rw (b .0) at j) ∙ no-given _ (u .is ∙ ap (refused x) (sym (u .ends ∙ zero-add (u .o))))))
+            on-last p n m a d (addElement id s) (withMore p id s) (λ rs. refl) _ _ l g (λ rs h y w v e′. let b = back-got itself (number 2) d (e + 24) (count-stands n d h w e′ .1) f k in made-given n d (not-full _ _ (rw (b .0) at j) ∙ no-given _ (u .is ∙ ap (refused x) (sym (u .ends ∙ zero-add (u .o))))))
 
         pub element-done : (r : Outcome) (d′ : List ℕ) {v o : ℕ} → (m ≡ 0 → ⊥) → e ≡ nameEnd d a → z ≡ seen itself (number 2) d (e + 24) → z ≡ Read.Got c q → c < 64 → Bytes s → t ≡ told 0 none (given p id s) → t ≡ Read.Got v o → Grows n e c id s d r d′ → MakesAs p lastOf n m a (addElement id s) d r d′
-        unfolding Grows laterBytes
+        unfolding Grows laterBytes edited
         element-done r d′ l g f k j bs gt th w′ =
             let u = told-got 0 none (given p id s) gt th in
-            on-last r d′ l g (λ rs i h y w v e′.
+            on-last p n m a d (addElement id s) (withMore p id s) (λ rs. refl) r d′ l g (λ rs h y w v e′.
             let b = back-got itself (number 2) d (e + 24) (count-stands n d h w e′ .1) f k in
-            let y′ = later-written p Studio c id s (u .x) (u .n) (omega (arith, b .0, rule-fits p i (h .r) (h .fits) .0)) bs (u .is) in
-            rw (not-full _ _ (rw (b .0) at j), at-given _ (u .is)) (w′ p rs i (u .x) h y w v e′ (b .0) y′))
+            let y′ = later-written p Studio c id s (u .x) (u .n) (omega (arith, b .0, rule-fits p (m - 1) (h .r) (h .fits) .0)) bs (u .is) in
+            rw (not-full _ _ (rw (b .0) at j), at-given _ (u .is)) (w′ p rs (m - 1) (u .x) h y w v e′ (b .0) y′))

@@ -1,20 +1,19 @@
 -- A rule added at the end: its bytes behind the deck, and the number of rules written over.
-use Prim.Native.Nat.{ℕ, _+_, _/_, _≤_, _<_}
+use Prim.Native.Nat.{ℕ, _+_, _≤_, _<_}
 use native.Mathlib.Omega.{arith}
 use native.Mathlib.Nat.{zero-add}
-use native.Mathlib.Decide.{decLt}
 use mathlib.Core.Path.{_≡_, refl, sym, ap, _∙_}
 use mathlib.Core.Bool.{true, false}
 use mathlib.Core.List.{List, [], _∷_, _++_, append-assoc, append-nil}
-use lib.ListN.{length, take, drop, length-append, length-drop}
-use lib.Seq.{length-take-le, take-add}
+use lib.ListN.{length, take, length-append}
+use lib.Seq.{length-take-le}
 use Rattle.format.specs.declared.Fault.{Fault}
 use Rattle.format.specs.declared.Fault.the-variants as Fault
 use Rattle.format.specs.declared.Outcome.{Outcome}
 use Rattle.format.specs.declared.Outcome.the-variants as Outcome
 use Rattle.format.specs.declared.Read.{Read}
 use Rattle.format.specs.declared.Read.the-variants as Read
-use Rattle.format.specs.Format.{refused, Bytes, pick}
+use Rattle.format.specs.Format.{refused, Bytes}
 use Rattle.format.specs.Number.{spelt, length-spelt, bit}
 use Rattle.format.specs.Each.{eachWrite}
 use Rattle.format.specs.Seen.{told, none, told-got, told-no}
@@ -27,17 +26,16 @@ use Rattle.rule.specs.Rule.{Rule, placed}
 use Rattle.rule.specs.Parts.{kept, front, back, headBytes, inner, sizeOf}
 use Rattle.deck.specs.Written.{written, written-is, opening, opening-long, before, rules, rules-cons}
 use Rattle.buffer.specs.Laid.{putIn, put-both}
-use Rattle.buffer.specs.Holds.{Holds, holds-start, holds-put}
+use Rattle.buffer.specs.Holds.{Holds, holds-put, holds-behind}
 use Rattle.locate.specs.Located.{lastOf}
 use Rattle.locate.specs.Steps.{Sound}
 use Rattle.plan.specs.Given.{isText, units, given}
 use Rattle.plan.specs.Element.{first-written}
-use Rattle.plan.specs.Edit.{Plan, become, refuse, addRule, edited, newRule, ifText}
+use Rattle.plan.specs.Edit.{become, addRule, edited, newRule}
 use Rattle.plan.specs.Found.{MakesAs, Does}
-use Rattle.plan.specs.Makes.{made-no, made-given, made-rules, made-large, made-room, made-is}
-use Rattle.parts.specs.Text.{textBytes, textSize, text-size, text-is, size-none, size-long, size-short}
-use Rattle.parts.specs.Head.{head-long, head-short}
-use Rattle.add.specs.Element.{rules-none, at-given, no-given}
+use Rattle.plan.specs.Last.{rules-none}
+use Rattle.plan.specs.Makes.{if-text, no-text, at-given, no-given, made-no, made-given, made-rules, made-large, made-room, made-is}
+use Rattle.parts.specs.Text.{textBytes, textSize, text-size, text-is}
 
 -- ---- the bytes of a new rule
 
@@ -78,16 +76,6 @@ back-is i id s x e =
     rw (append-nil, e, l)
 
 -- ---- as the code puts them
-
-pub text-small : (s : List ℕ) → textSize s ≤ 513
-text-small s =
-    elim (decLt 510 (length s)) [
-      | yes l ↦ omega (arith, size-none s l)
-      | no l ↦ elim (decLt (length s / 2) 255) [
-        | yes h ↦ omega (arith, size-short s (omega arith) (λ e. omega arith))
-        | no h ↦ omega (arith, size-long s (omega arith) (omega arith))
-      ]
-    ]
 
 module _ (d : List ℕ) (at : ℕ) where
   pub kept-put : (f : Fields) {y₁ y₂ y₃ y₄ y₅ : List ℕ} → y₁ ≡ putIn d at (spelt 4 (bit (f .on))) → y₂ ≡ putIn y₁ (at + 4) (spelt 4 (f .unknown2)) → y₃ ≡ putIn y₂ (at + 8) (spelt 4 (f .unknown3)) → y₄ ≡ putIn y₃ (at + 12) (spelt 4 (f .unknown4)) → y₅ ≡ putIn y₄ (at + 16) (spelt 4 (f .unknown5))
@@ -144,20 +132,14 @@ module _ (d : List ℕ) (at : ℕ) where
       let w₃ = put-both d at (a ++ b) c w₂ e₃ (omega arith) (omega arith) in
       put-both d at ((a ++ b) ++ c) g w₃ e₄ (omega arith) (omega arith) ∙ ap (putIn d at) (simp append-assoc)
 
-pub head-none : {i : ℕ} → i ≡ 0 → (18 ≡ length (headBytes i)) × (18 ≤ 18)
-head-none e = (sym (ap (λ (j : ℕ). length (headBytes j)) e ∙ head-long), omega arith)
-
-pub head-some : {i : ℕ} → (i ≡ 0 → ⊥) → (2 ≡ length (headBytes i)) × (2 ≤ 18)
-head-some {i} h = (sym (head-short i (omega arith)), omega arith)
-
 -- ---- the deck with the rule
 
 -- the bytes of the whole rule
-unfoldable pub ruleBytes : ℕ → List ℕ → Fields → ℕ → List ℕ → List ℕ
-ruleBytes m name f id s = frontBytes name f ++ backBytes m id s
+unfoldable pub newBytes : ℕ → List ℕ → Fields → ℕ → List ℕ → List ℕ
+newBytes m name f id s = frontBytes name f ++ backBytes m id s
 
-rule-size : (m : ℕ) (name : List ℕ) (f : Fields) (id : ℕ) (s : List ℕ) → length (ruleBytes m name f id s) ≡ 34 + length (textBytes name) + length (headBytes m) + length s
-unfolding ruleBytes
+rule-size : (m : ℕ) (name : List ℕ) (f : Fields) (id : ℕ) (s : List ℕ) → length (newBytes m name f id s) ≡ 34 + length (textBytes name) + length (headBytes m) + length s
+unfolding newBytes
 rule-size m name f id s = omega (arith, length-append (frontBytes name f) (backBytes m id s), front-size name f, back-size m id s)
 
 -- whatever m rules the sound deck in the first n bytes has: the rule with this name, these fields and the element x, whose bytes these are, is added
@@ -170,8 +152,8 @@ module _ (n m : ℕ) (name : List ℕ) (f : Fields) (id : ℕ) (s d : List ℕ) 
   added-many rs x = length-append rs (x ∷ [])
 
   added-written : (rs : List Rule) (x : Element) → m ≡ length rs → placed Studio 0 .write x ≡ spelt 4 id ++ s → textBytes name ≡ string .write (units name)
-      → written (rs ++ (newRule (units name) f x ∷ [])) ≡ opening ++ (spelt 2 (m + 1) ++ (rules 0 rs ++ ruleBytes m name f id s))
-  unfolding before ruleBytes
+      → written (rs ++ (newRule (units name) f x ∷ [])) ≡ opening ++ (spelt 2 (m + 1) ++ (rules 0 rs ++ newBytes m name f id s))
+  unfolding before newBytes
   added-written rs x em b t =
       written-is rs (newRule (units name) f x ∷ [])
       ∙ rw (added-many rs (newRule (units name) f x), ← em, rules-cons, rules-none, append-nil, front-is name f x t, back-is m id s x b) (simp append-assoc)
@@ -183,16 +165,16 @@ module _ (n m : ℕ) (name : List ℕ) (f : Fields) (id : ℕ) (s d : List ℕ) 
       let z : rs ++ [] ≡ rs = append-nil rs in
       o .is ∙ (rw (z, rules-none, append-nil) at i)
 
-  added-long : {p : Product} (rs : List Rule) → Sound p (take n d) rs → n ≤ length d → length (opening ++ (spelt 2 (m + 1) ++ (rules 0 rs ++ ruleBytes m name f id s))) ≡ n + 34 + length (textBytes name) + length (headBytes m) + length s
+  added-long : {p : Product} (rs : List Rule) → Sound p (take n d) rs → n ≤ length d → length (opening ++ (spelt 2 (m + 1) ++ (rules 0 rs ++ newBytes m name f id s))) ≡ n + 34 + length (textBytes name) + length (headBytes m) + length s
   added-long rs o w =
-      let R = ruleBytes m name f id s in
+      let R = newBytes m name f id s in
       let q = rules 0 rs in
       omega (arith, length-append opening (spelt 2 (m + 1) ++ (q ++ R)), length-append (spelt 2 (m + 1)) (q ++ R), length-append q R, length-spelt 2 (m + 1), rule-size m name f id s, ap length (deck-parts rs o), length-append opening (spelt 2 (length rs) ++ q), length-append (spelt 2 (length rs)) q, length-spelt 2 (length rs), length-take-le n d w)
 
   added-holds : {p : Product} (rs : List Rule) {at : ℕ} {y₁ y₂ y₃ : List ℕ} → Sound p (take n d) rs → n ≤ length d → at ≡ n + 24 + length (textBytes name) → n + 34 + length (textBytes name) + length (headBytes m) + length s ≤ length d
       → y₁ ≡ putIn d n (frontBytes name f) → y₂ ≡ putIn y₁ at (backBytes m id s) → y₃ ≡ putIn y₂ 5 (spelt 2 (m + 1))
-      → Holds y₃ (opening ++ (spelt 2 (m + 1) ++ (rules 0 rs ++ ruleBytes m name f id s))) (n + length (ruleBytes m name f id s)) d
-  unfolding ruleBytes
+      → Holds y₃ (opening ++ (spelt 2 (m + 1) ++ (rules 0 rs ++ newBytes m name f id s))) (n + length (newBytes m name f id s)) d
+  unfolding newBytes
   added-holds rs {at} {y₁} {y₂} {y₃} o w ea l e₁ e₂ e₃ =
       let F = frontBytes name f in
       let K = backBytes m id s in
@@ -201,11 +183,8 @@ module _ (n m : ℕ) (name : List ℕ) (f : Fields) (id : ℕ) (s d : List ℕ) 
       let lf = front-size name f in
       let lk = back-size m id s in
       let e₂′ : y₂ ≡ putIn d n R = put-both d n F K e₁ e₂ (omega arith) (omega arith) in
-      let G = take (length R) (drop n d) in
-      let t : take (n + length R) d ≡ take n d ++ (G ++ []) = take-add n (length R) d ∙ rw append-nil in
-      let h₁ = holds-put (take n d) G [] R (holds-start d (n + length R) (omega arith)) t (length-take-le n d w) (length-take-le (length R) (drop n d) (omega (arith, length-drop n d))) e₂′ in
-      let i : take n d ++ (R ++ []) ≡ opening ++ (spelt 2 (length rs) ++ (rules 0 rs ++ R)) = rw (deck-parts rs o, append-nil) (simp append-assoc) in
-      holds-put opening (spelt 2 (length rs)) (rules 0 rs ++ R) (spelt 2 (m + 1)) h₁ i opening-long (length-spelt 2 (length rs) ∙ sym (length-spelt 2 (m + 1))) e₃
+      let i : take n d ++ R ≡ opening ++ (spelt 2 (length rs) ++ (rules 0 rs ++ R)) = rw (deck-parts rs o) (simp append-assoc) in
+      holds-put opening (spelt 2 (length rs)) (rules 0 rs ++ R) (spelt 2 (m + 1)) (holds-behind d n R (omega arith) e₂′) i opening-long (length-spelt 2 (length rs) ∙ sym (length-spelt 2 (m + 1))) e₃
 
   pub extend-rules : m ≡ 256 → Extends n m name f id s d (Outcome.No Fault.Rules 0) d
   unfolding Extends
@@ -233,14 +212,6 @@ module _ (n m : ℕ) (name : List ℕ) (f : Fields) (id : ℕ) (s d : List ℕ) 
         made-is n d (added-holds rs o w (omega arith) (omega arith) e₁ e₂ e₃) refl (sym (added-written rs x em b t)) (omega arith) (omega arith) (omega (arith, added-many rs (newRule (units name) f x))) g
 
 -- ---- what is judged before
-
-pub no-text : (s : List ℕ) (q : Plan) → isText s ≡ false → ifText s q ≡ refuse Fault.Text 0
-unfolding ifText pick
-no-text s q e = rw e
-
-pub if-text : (s : List ℕ) (q : Plan) → isText s ≡ true → ifText s q ≡ q
-unfolding ifText pick
-if-text s q e = rw e
 
 module _ (p : Product) (n m : ℕ) (name : List ℕ) (f : Fields) (id : ℕ) (s d : List ℕ) where
   pub rule-text : (a : ℕ) → isText name ≡ false → MakesAs p lastOf n m a (addRule name f id s) d (Outcome.No Fault.Text 0) d

@@ -119,22 +119,12 @@ fn put_front(buf: &mut [u8], at: usize, name: &[u8], fields: Fields)
     put_kept(buf, at + 4 + size, fields);
 }
 
-// How many bytes the head of rule i is.
-fn head_size(i: u64) -> usize
-    ensures { λ r. ⌜ (r ≡ length (headBytes i)) × (r ≤ 18) ⌝ }
-{
-    if i == 0 {
-        return 18;
-    }
-    2
-}
-
 // Data Size, the number of elements, the head of rule i and its only element.
 fn put_back(buf: &mut [u8], at: usize, i: u64, identifier: u32, s: &[u8])
     requires { ⌜ at + 10 + length (headBytes i) + length (now s) ≤ length (now buf) ⌝ }
     ensures { λ _. ⌜ now (buf .exit) ≡ putIn (now (buf .entry)) at (backBytes i identifier (now (s .entry))) ⌝ }
 {
-    let head = head_size(i);
+    let head = parts::head_size(i);
     buffer::put_number(buf, at, 4, (6 + head + s.len()) as u64);
     buffer::put_number(buf, at + 4, 2, 1);
     parts::put_head(buf, at + 6, i);
@@ -158,7 +148,7 @@ fn extend(
         return Outcome::No(Fault::Rules, 0);
     }
     let at = n + 24 + parts::text_size(name);
-    let end = at + 10 + head_size(m) + s.len();
+    let end = at + 10 + parts::head_size(m) + s.len();
     if 60000 < end {
         return Outcome::No(Fault::Large, 0);
     }

@@ -10,7 +10,7 @@ use lib.ListN.{length, take, drop}
 use Rattle.format.specs.declared.Fault.{Fault}
 use Rattle.format.specs.declared.Fault.the-variants as Fault
 use Rattle.format.specs.Format.{Answer, got, refused, endOf, shift, mapped, andThen, pick, Format, Bytes, bytes-drop, end-mapped}
-use Rattle.format.specs.Join.{pair, pairRead, judged, judged-end, via, home, atStart, nothing, seq, _then_}
+use Rattle.format.specs.Join.{pair, pairRead, judged, judged-end, via, home-end, atStart, nothing, seq, _then_}
 use Rattle.format.specs.Number.{number, numberRead, value, fixed, flag, count}
 use Rattle.format.specs.Each.{each, eachRead, counted, listed}
 
@@ -41,11 +41,6 @@ bounded-judged ok c a n f s b = omega (arith, judged-end ok c a (a .read s), f s
 pub bounded-via : {A B : Type 0} (a : Format A) (to : A → B) (from : B → A) (same : (x : A) → a .Fit x → from (to x) ≡ x) (n : ℕ) → Bounded a n → Bounded (via a to from same) n
 unfolding Bounded via
 bounded-via a to from same n f s b = rw end-mapped (f s b)
-
-home-end : {A : Type 0} (q : Answer A) → endOf (home q) ≤ endOf q
-unfolding home endOf
-home-end (got x k) = omega arith
-home-end (refused c k) = omega arith
 
 pub bounded-start : {A : Type 0} (a : Format A) (n : ℕ) → Bounded a n → Bounded (atStart a) n
 unfolding Bounded atStart

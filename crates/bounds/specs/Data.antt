@@ -89,6 +89,10 @@ offered-place p (Row.Is k) h = go (inProduct p k)
     go true = refl
     go false = refl
 
+pub row-zero : (p : Product) (id : ℕ) → rowPlace (rowOf p id) ≡ 0
+unfolding rowOf
+row-zero p id = offered-place p (rowIn kinds id) (row-place kinds id)
+
 whole-end : {A : Type 0} (n : ℕ) (a : Answer A) → endOf (whole n a) ≤ endOf a
 unfolding whole endOf pick
 whole-end n (got x m) = go (eqb m n)
@@ -99,8 +103,8 @@ whole-end n (got x m) = go (eqb m n)
 whole-end n (refused c q) = omega arith
 
 pub given-end : (p : Product) (id : ℕ) (s : List ℕ) → Bytes s → endOf (given p id s) ≤ most
-unfolding given rowOf Bounded endOf
-given-end p id s b = go (offered p (rowIn kinds id)) (offered-place p (rowIn kinds id) (row-place kinds id))
+unfolding given Bounded endOf
+given-end p id s b = go (rowOf p id) (row-zero p id)
   where
     go : (r : Row) → rowPlace r ≡ 0 → endOf (givenBy r id s) ≤ most
     go (Row.Is k) h = omega (arith, end-mapped (withData id) (whole (length s) (dataOf k .read s)), whole-end (length s) (dataOf k .read s), bounded-data k s b)

@@ -1,3 +1,6 @@
 pub mod Bounded
 pub mod Data
+pub mod Refused
 pub mod Places
+pub mod Faults
+pub mod Numbers

@@ -18,20 +18,21 @@ use Rattle.kind.specs.declared.Product.{Product}
 use Rattle.kind.specs.declared.Edition.{Edition}
 use Rattle.kind.specs.declared.Edition.the-variants as Edition
 use Rattle.kind.specs.Kinds.{editionOf}
-use Rattle.element.specs.Data.{plain, words, sizes, span, wordsOf}
+use Rattle.element.specs.Data.{wordsOf}
 use Rattle.element.specs.Element.{Element}
 use Rattle.rule.specs.Rule.{Rule, elementsIn}
 use Rattle.deck.specs.Deck.{readAs, readBy, readDeck, answered, place-small, read-writes-back}
 use Rattle.deck.specs.Written.{written}
 use Rattle.plan.specs.Given.{given}
-use Rattle.plan.specs.Edit.{Edit, switch, rename, remove, insert, addRule, addElement, addWord, Plan, become, refuse, refuseGiven, atRule, atCopy, atSecond, atLast, atList, unlessFull, ifText, atGiven, edited, room, inRoom, plan, planBy, planned, says}
+use Rattle.plan.specs.Edit.{Edit, switch, rename, remove, insert, addRule, addElement, addWord, Plan, become, refuse, refuseGiven, edited, room, inRoom, plan, planBy, planned, says}
 use Rattle.tables.specs.Tables.{ruleWidth, elementWidth, inTables, tabled, readSays}
 use Rattle.view.specs.declared.View.{View}
 use Rattle.view.specs.declared.View.the-variants.{At, No}
 use Rattle.view.specs.Asked.{asked, askedBy, askedOf, askedFirst}
 use Rattle.view.specs.View.{Inside, nameAt, nameView, placed}
 use Rattle.view.specs.Word.{wordAt, elementWord, ruleWord, wordView}
-use Rattle.bounds.specs.Data.{given-end}
+use Rattle.bounds.specs.Data.{most, given-end}
+use Rattle.bounds.specs.Refused.{Only, Own, Refuses, OfGiven, only-edited}
 
 -- what is lent to an edit beside its buffer, and is read, is bytes
 unfoldable pub Lent : Edit → Type 0
@@ -43,78 +44,33 @@ Lent (addRule name f id s) = Bytes s
 Lent (addElement id s) = Bytes s
 Lent (addWord word) = Unit {0}
 
--- the place of a plan before 18, 19 and 20
-abbrev Small : Plan → Type 0
-Small (become rs) = Unit {0}
-Small (refuse c q) = q ≤ 60000
-Small (refuseGiven c q) = q ≤ 60000
-
-small-pick : (b : Bool) (q : Plan) (c : Fault) (o : ℕ) → Small q → o ≤ 60000 → Small (pick b q (refuse c o))
-unfolding pick
-small-pick true q c o f h = f
-small-pick false q c o f h = h
-
-small-text : (s : List ℕ) (q : Plan) → Small q → Small (ifText s q)
-unfolding ifText
-small-text s q f = small-pick _ q Fault.Text 0 f (omega arith)
-
-small-full : (n : ℕ) (q : Plan) → Small q → Small (unlessFull n q)
-unfolding unlessFull
-small-full n q f = small-pick _ q Fault.Full 0 f (omega arith)
-
-small-rule : (ys : List Rule) (f : Rule → List Rule → Plan) → ((r : Rule) (later : List Rule) → Small (f r later)) → Small (atRule ys f)
-unfolding atRule
-small-rule [] f g = omega arith
-small-rule (r ∷ later) f g = g r later
-
-small-copy : (ys : List Rule) (f : Rule → Plan) → ((r : Rule) → Small (f r)) → Small (atCopy ys f)
-unfolding atCopy
-small-copy [] f g = omega arith
-small-copy (r ∷ later) f g = g r
-
-small-last : (ys : List Rule) (f : Rule → Plan) → ((r : Rule) → Small (f r)) → Small (atLast ys f)
-unfolding atLast
-small-last [] f g = omega arith
-small-last (r ∷ later) f g = g r
-
-small-list : (ys : List Element) (f : ℕ → List (List ℕ) → Plan) → ((id : ℕ) (ws : List (List ℕ)) → Small (f id ws)) → Small (atList ys f)
-unfolding atList
-small-list [] f g = omega arith
-small-list ((id, plain) ∷ later) f g = omega arith
-small-list ((id, words ws) ∷ later) f g = g id ws
-small-list ((id, sizes a b) ∷ later) f g = omega arith
-small-list ((id, span a b) ∷ later) f g = omega arith
-
-small-given : (a : Answer Element) (f : Element → Plan) → endOf a ≤ 60000 → ((x : Element) → Small (f x)) → Small (atGiven a f)
-unfolding atGiven endOf
-small-given (got x n) f h g = g x
-small-given (refused c q) f h g = h
-
-small-second : (a : Answer (List Rule)) (f : List Rule → Plan) → placeOf (answered a) ≤ 60000 → ((qs : List Rule) → Small (f qs)) → Small (atSecond a f)
-unfolding atSecond
-small-second (got qs n) f h g = g qs
-small-second (refused c q) f h g = h
-
 -- a reading in an edition
 read-small : (edition : ℕ) (p : Product) (s : List ℕ) → editionOf edition ≡ Edition.Of p → Bytes s → placeOf (answered (readAs p s)) ≤ 60000
 unfolding readDeck readBy
 read-small edition p s e b = rw e at (place-small edition s b)
 
+abbrev Small : Fault → ℕ → Type 0
+Small c q = q ≤ 60000
+
+small-own : Own Small
+small-own = record { absent = omega arith; copied = omega arith; text = omega arith; full = omega arith; last = omega arith }
+
 module _ (edition : ℕ) (p : Product) (ed : editionOf edition ≡ Edition.Of p) where
-  element-small : (id : ℕ) (s : List ℕ) → Bytes s → endOf (given p id s) ≤ 60000
-  element-small id s b = omega (arith, given-end p id s b)
+  element-small : (id : ℕ) (s : List ℕ) → Bytes s → Refuses Small (given p id s)
+  unfolding endOf
+  element-small id s b c q e = let w : q ≤ most = rw e at (given-end p id s b) in omega arith
 
-  edited-small : (e : Edit) (rs : List Rule) → Lent e → Small (edited p e rs)
-  unfolding edited Lent
-  edited-small (switch k on) rs h = small-rule _ _ (λ r later. tt)
-  edited-small (rename k name) rs h = small-rule _ _ (λ r later. small-text name _ tt)
-  edited-small (remove k) rs h = small-rule _ _ (λ r later. tt)
-  edited-small (insert k second j) rs h = small-second _ _ (read-small edition p second ed h) (λ qs. small-pick _ _ Fault.Absent 0 (small-copy _ _ (λ q. tt)) (omega arith))
-  edited-small (addRule name f id s) rs h = small-text name _ (small-given _ _ (element-small id s h) (λ x. tt))
-  edited-small (addElement id s) rs h = small-last _ _ (λ r. small-full _ _ (small-given _ _ (element-small id s h) (λ x. tt)))
-  edited-small (addWord word) rs h = small-last _ _ (λ r. small-list _ _ (λ id ws. small-full _ _ (small-text word _ tt)))
+  given-small : (e : Edit) → Lent e → OfGiven Small p e
+  unfolding Lent
+  given-small (switch k on) h = tt
+  given-small (rename k name) h = tt
+  given-small (remove k) h = tt
+  given-small (insert k second j) h = λ c q e. rw e at (read-small edition p second ed h)
+  given-small (addRule name f id s) h = element-small id s h
+  given-small (addElement id s) h = element-small id s h
+  given-small (addWord word) h = tt
 
-room-small : (cap : ℕ) (q : Plan) → Small q → placeOf (says (inRoom cap q)) ≤ 60000
+room-small : (cap : ℕ) (q : Plan) → Only Small Small q → placeOf (says (inRoom cap q)) ≤ 60000
 unfolding room says pick
 room-small cap (become rs) f = few (leb (length rs) 256) (leb (length (written rs)) 60000) refl (leb (length (written rs)) cap)
   where
@@ -131,7 +87,7 @@ unfolding planned says pick
 plan-small edition n d e b h = by (editionOf edition) refl
   where
     read : (p : Product) (a : Answer (List Rule)) → editionOf edition ≡ Edition.Of p → placeOf (answered a) ≤ 60000 → placeOf (says (plan p (length d) e a)) ≤ 60000
-    read p (got rs m) f g = room-small (length d) (edited p e rs) (edited-small edition p f e rs h)
+    read p (got rs m) f g = room-small (length d) (edited p e rs) (only-edited Small Small small-own p e rs (given-small edition p f e h))
     read p (refused c q) f g = g
 
     stated : (p : Product) (t : Bool) → editionOf edition ≡ Edition.Of p → placeOf (says (pick t (plan p (length d) e (readAs p (take n d))) (refuse Fault.Stated 0))) ≤ 60000

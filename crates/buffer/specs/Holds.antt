@@ -2,9 +2,9 @@
 use Prim.Native.Nat.{ℕ, _+_, _-_, _≤_, max}
 use native.Mathlib.Omega.{arith}
 use mathlib.Core.Path.{_≡_, refl, sym, ap, _∙_}
-use mathlib.Core.List.{List, _++_, append-assoc}
+use mathlib.Core.List.{List, [], _++_, append-assoc, append-nil}
 use lib.ListN.{length, take, drop, length-append, length-drop}
-use lib.Seq.{take-at, length-take-le}
+use lib.Seq.{take-at, take-add, length-take-le}
 use Rattle.buffer.specs.Laid.{zeros, putIn, put, down, up, moved, laid, opened, put-in, put-over, opened-in, length-down, length-up, down-two, up-two, drop-two, moved-part, laid-start, take-laid, length-laid, laid-again}
 
 -- the buffer y holds the deck Y; hi is the longest so far, d the buffer as found
@@ -49,6 +49,13 @@ pub holds-put : (P Q R s : List ℕ) {y Y d z : List ℕ} {hi at : ℕ} → Hold
 holds-put P Q R s {y} {at = at} h e p q f =
     let fits : at + length s ≤ length y = omega (arith, deck-length P Q R h e, holds-length h, h .short, h .room) in
     over P Q R h e s q (f ∙ put-in y at s fits ∙ ap (λ (x : List ℕ). put x at s) (in-parts P Q R h e) ∙ put-over P Q _ s p q)
+
+-- bytes behind the deck in the first n bytes
+pub holds-behind : (d : List ℕ) (n : ℕ) (E : List ℕ) {y : List ℕ} → n + length E ≤ length d → y ≡ putIn d n E → Holds y (take n d ++ E) (n + length E) d
+holds-behind d n E l e =
+    let G = take (length E) (drop n d) in
+    let t : take (n + length E) d ≡ take n d ++ (G ++ []) = take-add n (length E) d ∙ rw append-nil in
+    rw (append-nil E) at (holds-put (take n d) G [] E (holds-start d (n + length E) l) t (length-take-le n d (omega arith)) (length-take-le (length E) (drop n d) (omega (arith, length-drop n d))) e)
 
 holds-moved : (f : List ℕ → List ℕ) (P T R : List ℕ) {y Y d z : List ℕ} {hi a e : ℕ} → Holds y Y hi d → Y ≡ P ++ (T ++ R) → length P ≡ a → a + length T ≡ e → length (f T) ≡ length T
     → z ≡ moved f a e y → Holds z (P ++ (f T ++ R)) hi d

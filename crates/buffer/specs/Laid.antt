@@ -105,9 +105,9 @@ put-next (y ∷ xs) zero x ys h =
 put-next (y ∷ xs) (suc at) x ys h = put-cons y (set xs at x) (suc at) ys ∙ ap (λ (zs : List ℕ). y ∷ zs) (put-next xs at x ys (omega arith)) ∙ sym (put-cons y xs at (x ∷ ys))
 
 -- bytes behind the bytes that were put
-behind : (ps d cs : List ℕ) → put (ps ++ d) (length ps) cs ≡ ps ++ (cs ++ drop (length cs) d)
+put-after : (ps d cs : List ℕ) → put (ps ++ d) (length ps) cs ≡ ps ++ (cs ++ drop (length cs) d)
 unfolding put
-behind ps d cs = rw (take-append-seam, ← drop-drop (length cs) (length ps) (ps ++ d), drop-append-seam)
+put-after ps d cs = rw (take-append-seam, ← drop-drop (length cs) (length ps) (ps ++ d), drop-append-seam)
 
 pub put-on : (xs : List ℕ) (at : ℕ) (bs cs : List ℕ) → at ≤ length xs → put (put xs at bs) (at + length bs) cs ≡ put xs at (bs ++ cs)
 unfolding put
@@ -117,7 +117,7 @@ put-on xs at bs cs h =
     let w : at + length bs ≡ length (a ++ bs) = omega (arith, length-append a bs, length-take-le at xs h) in
     let l : at + length bs + length cs ≡ at + length (bs ++ cs) = omega (arith, length-append bs cs) in
     let e : drop (length cs) d ≡ drop (at + length (bs ++ cs)) xs = drop-drop (length cs) (at + length bs) xs ∙ ap (λ (n : ℕ). drop n xs) l in
-    ap₂ (λ (z : List ℕ) (n : ℕ). put z n cs) (sym (append-assoc a bs d)) w ∙ behind (a ++ bs) d cs
+    ap₂ (λ (z : List ℕ) (n : ℕ). put z n cs) (sym (append-assoc a bs d)) w ∙ put-after (a ++ bs) d cs
     ∙ ap (λ (z : List ℕ). (a ++ bs) ++ (cs ++ z)) e ∙ append-assoc a bs (cs ++ drop (at + length (bs ++ cs)) xs)
     ∙ ap (λ (z : List ℕ). a ++ z) (sym (append-assoc bs cs (drop (at + length (bs ++ cs)) xs)))
 

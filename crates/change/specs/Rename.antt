@@ -1,7 +1,6 @@
 -- A rule renamed: the String of its name gives way to another.
-use Prim.Native.Nat.{ℕ, _+_, _-_, _/_, _≤_, _<_, max}
+use Prim.Native.Nat.{ℕ, _+_, _-_, _≤_, _<_, max}
 use native.Mathlib.Omega.{arith}
-use native.Mathlib.Decide.{decLt}
 use mathlib.Core.Path.{_≡_, sym, ap, _∙_}
 use mathlib.Core.Bool.{true, false}
 use mathlib.Core.List.{List, _∷_, _++_, append-assoc}
@@ -10,7 +9,7 @@ use lib.Seq.{length-take-le}
 use Rattle.format.specs.declared.Fault.the-variants as Fault
 use Rattle.format.specs.declared.Outcome.{Outcome}
 use Rattle.format.specs.declared.Outcome.the-variants as Outcome
-use Rattle.format.specs.Format.{Bytes, pick}
+use Rattle.format.specs.Format.{Bytes}
 use Rattle.format.specs.Number.{spelt, length-spelt}
 use Rattle.text.specs.Text.{string}
 use Rattle.kind.specs.declared.Product.{Product}
@@ -21,12 +20,12 @@ use Rattle.buffer.specs.Laid.{putIn, opened}
 use Rattle.buffer.specs.Holds.{Holds, holds-start, holds-open, holds-fill}
 use Rattle.locate.specs.declared.Spot.{Spot}
 use Rattle.locate.specs.declared.Spot.the-variants as Spot
-use Rattle.locate.specs.Steps.{Sound, Here, here, nameEnd, name-end}
+use Rattle.locate.specs.Steps.{Sound, Here, here, nameEnd}
 use Rattle.plan.specs.Given.{isText, units}
-use Rattle.plan.specs.Edit.{Plan, become, refuse, ifText, rename, edited, renamed}
+use Rattle.plan.specs.Edit.{become, rename, edited, renamed}
 use Rattle.plan.specs.Found.{Makes, Does, found, ground, Ground}
-use Rattle.plan.specs.Makes.{here-in, sound-small, replaced-long, written-here, at-rule, no-rule, made-no, made-large, made-room, made-is}
-use Rattle.parts.specs.Text.{textBytes, textSize, text-size, text-is, size-long, size-short, size-none}
+use Rattle.plan.specs.Makes.{name-ends, sound-small, replaced-long, written-here, at-rule, no-rule, if-text, no-text, made-no, made-large, made-room, made-is}
+use Rattle.parts.specs.Text.{textBytes, textSize, text-size, text-is}
 
 -- the bounds of the name, from a + 4 to e, of a rule that starts at a
 pub record Named (n a e : ℕ) (d : List ℕ) : Type 0 where
@@ -35,46 +34,23 @@ pub record Named (n a e : ℕ) (d : List ℕ) : Type 0 where
   pub room : n ≤ length d
   pub short : n ≤ 60000
 
--- a String is short
-pub text-small : (s : List ℕ) → textSize s ≤ 513
-text-small s =
-    elim (decLt 510 (length s)) [
-      | yes l ↦ omega (arith, size-none s l)
-      | no l ↦ elim (decLt (length s / 2) 255) [
-        | yes h ↦ omega (arith, size-short s (omega arith) (λ e. omega arith))
-        | no h ↦ omega (arith, size-long s (omega arith) (omega arith))
-      ]
-    ]
-
--- where the name of a rule of a sound deck ends
+-- the name of a rule of a sound deck ends before Data Size
 module _ (n : ℕ) (d : List ℕ) (p : Product) (rs : List Rule) (k : ℕ) (h : Here p (take n d) rs k) where
-  name-ends : nameEnd d (startOf rs k) ≡ startOf rs k + 4 + length (string .write (h .r .name))
-  name-ends = name-end d (startOf rs k) p k (h .r) (here-in n d h)
-
   name-inside : n ≤ length d → startOf rs k + 24 + length (string .write (h .r .name)) ≤ n
   name-inside w =
       let B = before (length rs) (take k rs) in
       let L = back k (h .r .elements) ++ rules (k + 1) (h .later) in
       omega (arith, ap length (h .is), length-append B (front (h .r) ++ L), length-append (front (h .r)) L, front-long (h .r), h .starts, length-take-le n d w)
 
-pub found-named : (edition n k : ℕ) (d : List ℕ) {c : Spot} {m a b e : ℕ} (s : List ℕ) → Bytes d → c ≡ found (λ rs. k) edition n d → c ≡ Spot.Is m a b → k < m → e ≡ nameEnd d a → Named n a e d
-found-named edition n k d {c} {m} {a} {b} {e} s bs f g l z = go (ground (λ rs. k) edition n d (rename k s) bs f g)
+pub found-named : (edition n k : ℕ) (d : List ℕ) {c : Spot} {m a b e : ℕ} → Bytes d → c ≡ found (λ rs. k) edition n d → c ≡ Spot.Is m a b → k < m → e ≡ nameEnd d a → Named n a e d
+found-named edition n k d {c} {m} {a} {b} {e} bs f g l z = go (ground (λ rs. k) edition n d bs f g)
   where
-    go : Ground (λ rs. k) edition n d (rename k s) m a b → Named n a e d
+    go : Ground (λ rs. k) edition n d m a b → Named n a e d
     go o =
         let h = here (o .product) (take n d) (o .rs) k (o .sound) (omega (arith, o .many)) in
         let i = name-inside n d (o .product) (o .rs) k h (o .within) in
-        let j : e ≡ startOf (o .rs) k + 4 + length (string .write (h .r .name)) = rw (o .starts) at z ∙ name-ends n d (o .product) (o .rs) k h in
+        let j : e ≡ startOf (o .rs) k + 4 + length (string .write (h .r .name)) = rw (o .starts) at z ∙ name-ends n d h in
         record { order = omega (arith, o .starts, j); inside = omega (arith, i, j); room = o .within; short = omega (arith, o .sound .short, length-take-le n d (o .within)) }
-
--- ---- 17
-text-yes : (s : List ℕ) (q : Plan) → isText s ≡ true → ifText s q ≡ q
-unfolding ifText pick
-text-yes s q e = rw e
-
-text-no : (s : List ℕ) (q : Plan) → isText s ≡ false → ifText s q ≡ refuse Fault.Text 0
-unfolding ifText pick
-text-no s q e = rw e
 
 -- the String gives way, and its place is filled
 renamed-holds : (d : List ℕ) (n : ℕ) (s : List ℕ) (p : Product) (rs : List Rule) (k : ℕ) {a e len : ℕ} {z y : List ℕ} (h : Here p (take n d) rs k) → n ≤ length d → Bytes s → isText s ≡ true
@@ -113,12 +89,12 @@ module _ (edition n k m a b : ℕ) (s d : List ℕ) where
   rename-text l t p rs f o w em ea eb = go (here p (take n d) rs k o (omega arith))
     where
       go : Here p (take n d) rs k → Does n (edited p (rename k s) rs) d (Outcome.No Fault.Text 0) d
-      go h = made-no n d (at-rule rs k _ (h .from) ∙ text-no s _ t)
+      go h = made-no n d (at-rule rs k _ (h .from) ∙ no-text s _ t)
 
   -- the edited list, and its length
   becomes : (p : Product) (rs : List Rule) (h : Here p (take n d) rs k) → isText s ≡ true → edited p (rename k s) rs ≡ become (take k rs ++ (renamed (units s) (h .r) ∷ h .later))
   unfolding edited
-  becomes p rs h t = at-rule rs k _ (h .from) ∙ text-yes s _ t
+  becomes p rs h t = at-rule rs k _ (h .from) ∙ if-text s _ t
 
   few : (p : Product) (rs : List Rule) (h : Here p (take n d) rs k) → Sound p (take n d) rs → length (take k rs ++ (renamed (units s) (h .r) ∷ h .later)) ≤ 256
   few p rs h o = rw (replaced-long rs (h .later) k (h .r) (renamed (units s) (h .r)) (h .from)) (sound-small n d o)
@@ -126,7 +102,7 @@ module _ (edition n k m a b : ℕ) (s d : List ℕ) where
   becomes-long : (p : Product) (rs : List Rule) (h : Here p (take n d) rs k) {e len : ℕ} → n ≤ length d → k < length rs → Bytes s → isText s ≡ true → a ≡ startOf rs k → e ≡ nameEnd d a → len ≡ textSize s
       → length (written (take k rs ++ (renamed (units s) (h .r) ∷ h .later))) ≡ n - (e - (a + 4)) + len
   becomes-long p rs h {e} w l bs t ea ee el =
-      let g : e ≡ a + 4 + length (string .write (h .r .name)) = rw ea (rw ea at ee ∙ name-ends n d p rs k h) in
+      let g : e ≡ a + 4 + length (string .write (h .r .name)) = rw ea (rw ea at ee ∙ name-ends n d h) in
       ap length (written-here rs (h .later) k (h .r) (renamed (units s) (h .r)) (h .from) l) ∙ renamed-long d n s p rs k h w bs t ea g el
 
   -- it starts at a, and its name ends at e
@@ -152,6 +128,6 @@ module _ (edition n k m a b : ℕ) (s d : List ℕ) where
       where
         go : Here p (take n d) rs k → Does n (edited p (rename k s) rs) d (Outcome.Done new) y
         go h =
-            let g : e ≡ a + 4 + length (string .write (h .r .name)) = rw ea (rw ea at ee ∙ name-ends n d p rs k h) in
+            let g : e ≡ a + 4 + length (string .write (h .r .name)) = rw ea (rw ea at ee ∙ name-ends n d h) in
             made-is n d (renamed-holds d n s p rs k h w bs t ea g el (omega arith) ez ey) (becomes p rs h t) (sym (written-here rs (h .later) k (h .r) (renamed (units s) (h .r)) (h .from) (omega arith)))
             (renamed-long d n s p rs k h w bs t ea g el ∙ sym en) (omega arith) (few p rs h o) big

@@ -16,10 +16,10 @@ use Rattle.rule.specs.Parts.{front, front-long, kept, back}
 use Rattle.deck.specs.Written.{before, rules, startOf}
 use Rattle.buffer.specs.Laid.{putIn}
 use Rattle.buffer.specs.Holds.{Holds, holds-start, holds-put}
-use Rattle.locate.specs.Steps.{Here, here, nameEnd, name-end}
+use Rattle.locate.specs.Steps.{Here, here, nameEnd}
 use Rattle.plan.specs.Edit.{switch, edited, switched}
 use Rattle.plan.specs.Found.{Makes, Does}
-use Rattle.plan.specs.Makes.{here-in, sound-small, sound-short, replaced-long, written-here, at-rule, no-rule, made-no, made-is}
+use Rattle.plan.specs.Makes.{name-ends, sound-small, sound-short, replaced-long, written-here, at-rule, no-rule, made-no, made-is}
 
 -- Enabled is written over
 switched-holds : (d : List ℕ) (n : ℕ) (on : Bool) (p : Product) (rs : List Rule) (k : ℕ) {e : ℕ} {y : List ℕ} (h : Here p (take n d) rs k) → n ≤ length d → e ≡ startOf rs k + 4 + length (string .write (h .r .name)) → y ≡ putIn d e (spelt 4 (bit on))
@@ -52,6 +52,6 @@ module _ (edition n k m a b : ℕ) (on : Bool) (d : List ℕ) where
   switch-done e {y} l g z p rs f o w em ea eb = go (here p (take n d) rs k o (omega arith))
     where
       go : Here p (take n d) rs k → Does n (edited p (switch k on) rs) d (Outcome.Done n) y
-      go h = let e′ : e ≡ startOf rs k + 4 + length (string .write (h .r .name)) = rw ea at g ∙ name-end d (startOf rs k) p k (h .r) (here-in n d h) in
+      go h = let e′ : e ≡ startOf rs k + 4 + length (string .write (h .r .name)) = rw ea at g ∙ name-ends n d h in
           made-is n d (switched-holds d n on p rs k h w e′ z) (at-rule rs k _ (h .from)) (sym (written-here rs (h .later) k (h .r) (switched on (h .r)) (h .from) (omega arith)))
           (same-long n d p rs k on h w) (omega arith) (rw (replaced-long rs (h .later) k (h .r) (switched on (h .r)) (h .from)) (sound-small n d o)) (sound-short n d w o)

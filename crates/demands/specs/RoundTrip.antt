@@ -34,8 +34,8 @@ use Rattle.value.specs.declared.Value.the-variants as Value
 use Rattle.value.specs.declared.Valued.{Valued}
 use Rattle.value.specs.declared.Valued.the-variants as Valued
 use Rattle.value.specs.Value.{floats, valueIn, fromData, fromKind, fromRow, fromEdition, valueOf}
-use Rattle.put.specs.Plan.{afterOf, beforeOf, Fitted, holds, lacks, fromSpan, fromValue, shape, isOf, Plan, write, refuse, ifRoom, planData, planKind, planRow, planEdition, plan}
-use Rattle.put.specs.Put.{Does, formatBy, shaped, shapeOf, of-shape}
+use Rattle.put.specs.Plan.{afterOf, beforeOf, Fitted, holds, lacks, fromSpan, fromValue, shape, isOf, Putting, write, deny, ifRoom, planData, planKind, planRow, planEdition, putting}
+use Rattle.put.specs.Put.{Puts, formatBy, shaped, shapeOf, of-shape}
 
 -- ---- what each promise allows is one outcome
 
@@ -43,7 +43,7 @@ pub value-of-one : (edition id : ℕ) (s : List ℕ) {a b : Valued} → a ≡ va
 value-of-one edition id s e f = e ∙ sym f
 
 pub put-value-one : (edition id : ℕ) (v : Value) (xs : List ℕ) {a b : Outcome} {ys zs : List ℕ}
-    → Does xs (plan edition id v (length xs)) a ys → Does xs (plan edition id v (length xs)) b zs → (a ≡ b) × (ys ≡ zs)
+    → Puts xs (putting edition id v (length xs)) a ys → Puts xs (putting edition id v (length xs)) b zs → (a ≡ b) × (ys ≡ zs)
 put-value-one edition id v xs e f = (e .0 ∙ sym (f .0), e .1 ∙ sym (f .1))
 
 -- ---- cases that cannot be
@@ -54,7 +54,7 @@ unlike e f = absurd (let z : _≡_ {A = ℕ} 0 1 = cc in omega arith)
 unlike-call : {B : Type 0} {x : Valued} {v : Value} {c : Fault} {p : ℕ} → x ≡ Valued.No c p → x ≡ Valued.Is v → B
 unlike-call e f = absurd (let z : _≡_ {A = ℕ} 0 1 = cc in omega arith)
 
-unwritten : {B : Type 0} {x : Plan} {o : Outcome} {bs : List ℕ} → x ≡ refuse o → x ≡ write bs → B
+unwritten : {B : Type 0} {x : Putting} {o : Outcome} {bs : List ℕ} → x ≡ deny o → x ≡ write bs → B
 unwritten e f = absurd (let z : _≡_ {A = ℕ} 0 1 = cc in omega arith)
 
 -- ---- data to a value and back
@@ -118,8 +118,8 @@ kind-back k id s v room bs a e h = go (dataOf k .read s) refl e
     go (refused c p) r x = unlike refl x
 
 -- "data turned into a value and back": the same bytes
-pub value-writes-back : (edition id : ℕ) (s : List ℕ) (v : Value) (room : ℕ) → Bytes s → alone v ≡ true → valueOf edition id s ≡ Valued.Is v → length s ≤ room → plan edition id v room ≡ write s
-unfolding valueOf plan
+pub value-writes-back : (edition id : ℕ) (s : List ℕ) (v : Value) (room : ℕ) → Bytes s → alone v ≡ true → valueOf edition id s ≡ Valued.Is v → length s ≤ room → putting edition id v room ≡ write s
+unfolding valueOf putting
 value-writes-back edition id s v room bs a e h = by (editionOf edition) e
   where
     of : (r : Row) → fromRow r id s ≡ Valued.Is v → planRow r id v room ≡ write s
@@ -223,7 +223,7 @@ kind-forth : (k : Kind) (id : ℕ) (v : Value) (room : ℕ) (bs : List ℕ) → 
 unfolding planKind ifRoom pick
 kind-forth k id v room bs h e = is (isOf k id v) refl e
   where
-    fit : (d : Data) (t : Bool) → isOf k id v ≡ true → fromValue v ≡ holds d → pick t (write (dataOf k .write d)) (refuse (Outcome.No Fault.Room 0)) ≡ write bs → fromKind k id bs ≡ Valued.Is v
+    fit : (d : Data) (t : Bool) → isOf k id v ≡ true → fromValue v ≡ holds d → pick t (write (dataOf k .write d)) (deny (Outcome.No Fault.Room 0)) ≡ write bs → fromKind k id bs ≡ Valued.Is v
     fit d true i f x =
         let s = of-shape k id v i in
         let w : bs ≡ dataOf k .write d = cc in
@@ -241,8 +241,8 @@ kind-forth k id v room bs h e = is (isOf k id v) refl e
     is false i x = unwritten refl x
 
 -- "a value turned into data" and read: the same value
-pub data-reads-back : (edition id : ℕ) (v : Value) (room : ℕ) (bs : List ℕ) → Held v → plan edition id v room ≡ write bs → valueOf edition id bs ≡ Valued.Is v
-unfolding valueOf plan
+pub data-reads-back : (edition id : ℕ) (v : Value) (room : ℕ) (bs : List ℕ) → Held v → putting edition id v room ≡ write bs → valueOf edition id bs ≡ Valued.Is v
+unfolding valueOf putting
 data-reads-back edition id v room bs h e = by (editionOf edition) e
   where
     of : (r : Row) → planRow r id v room ≡ write bs → fromRow r id bs ≡ Valued.Is v

@@ -4,7 +4,7 @@ use native.Mathlib.Nat.{add-zero, add-assoc}
 use native.Mathlib.Omega.{arith}
 use mathlib.Core.Path.{_≡_, refl, sym, ap}
 use mathlib.Core.List.{List, [], _∷_, _++_, append-assoc}
-use lib.ListN.{length, drop, length-append}
+use lib.ListN.{length, take, drop, length-append}
 use lib.Seq.{drop-append-seam}
 use Rattle.format.specs.Format.{Answer, got, shift, mapped, andThen, endOf, Bytes, bytes-drop, Found, Format, went, mapped-got, end-mapped, end-then}
 use Rattle.format.specs.Join.{joined, pair, via}
@@ -91,3 +91,22 @@ each-alike a b i j (x ∷ xs) h =
     let f : a i .write x ≡ b j .write x = rw (add-zero, add-zero) at (h 0 x) in
     let g : (n : ℕ) (y : _) → a (i + 1 + n) .write y ≡ b (j + 1 + n) .write y = λ n y. rw (add-assoc, add-assoc) (h (1 + n) y) in
     rw (f, each-alike a b (i + 1) (j + 1) xs g)
+
+-- ---- rows that fit
+module _ {A : Type 0} (a : ℕ → Format A) where
+  pub all-append : (i : ℕ) (xs ys : List A) → AllFit a i xs → AllFit a (i + length xs) ys → AllFit a i (xs ++ ys)
+  unfolding AllFit
+  all-append i [] ys f g = rw add-zero at g
+  all-append i (x ∷ xs) ys f g = let e : i + suc (length xs) ≡ i + 1 + length xs = omega arith in (f .0, all-append (i + 1) xs ys (f .1) (rw e at g))
+
+  pub all-take : (i k : ℕ) (xs : List A) → AllFit a i xs → AllFit a i (take k xs)
+  unfolding AllFit
+  all-take i zero xs f = tt
+  all-take i (suc k) [] f = tt
+  all-take i (suc k) (x ∷ xs) f = (f .0, all-take (i + 1) k xs (f .1))
+
+  pub all-drop : (i k : ℕ) (xs : List A) → AllFit a i xs → AllFit a (i + k) (drop k xs)
+  unfolding AllFit
+  all-drop i zero xs f = rw add-zero f
+  all-drop i (suc k) [] f = tt
+  all-drop i (suc k) (x ∷ xs) f = let e : i + suc k ≡ i + 1 + k = omega arith in rw e (all-drop (i + 1) k xs (f .1))

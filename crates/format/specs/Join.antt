@@ -126,7 +126,7 @@ unfolding home
 home-got (got y m) x n e = e
 home-got (refused c p) x n e = apart (sym e)
 
-home-end : {A : Type 0} (q : Answer A) → endOf (home q) ≤ endOf q
+pub home-end : {A : Type 0} (q : Answer A) → endOf (home q) ≤ endOf q
 unfolding home endOf
 home-end (got y m) = omega arith
 home-end (refused c p) = omega arith

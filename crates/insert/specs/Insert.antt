@@ -29,7 +29,7 @@ use Rattle.locate.specs.declared.Spot.{Spot}
 use Rattle.locate.specs.declared.Spot.the-variants as Spot
 use Rattle.locate.specs.Located.{located}
 use Rattle.locate.specs.Steps.{Sound, sound-read, Here, here, here-stands, nameEnd, name-end, start-within, start-past}
-use Rattle.plan.specs.Edit.{Plan, remove, become, refuse, refuseGiven, atCopy, atSecond, insert, edited}
+use Rattle.plan.specs.Edit.{Plan, become, refuse, refuseGiven, atCopy, atSecond, insert, edited}
 use Rattle.plan.specs.Found.{Makes, Does, Within, found, ground, found-within}
 use Rattle.plan.specs.Makes.{made-no, made-given, made-rules, made-large, made-room, made-is}
 use Rattle.insert.specs.Copy.{copied, copySize, copied-is, copied-long}
@@ -278,8 +278,8 @@ module _ (edition : ℕ) (s : List ℕ) (j : ℕ) {f : Spot} where
 pub found-place : (k edition n : ℕ) (d : List ℕ) {c : Spot} {m a b : ℕ} → Bytes d → c ≡ found (λ rs. k) edition n d → c ≡ Spot.Is m a b → Within n m a b d × (a + lost k m ≤ n)
 unfolding startOf
 found-place k edition n d {m = m} {a = a} bs g h =
-    let o = ground (λ rs. k) edition n d (remove k) bs g h in (
-      found-within (λ rs. k) edition n d (remove k) bs g h,
+    let o = ground (λ rs. k) edition n d bs g h in (
+      found-within (λ rs. k) edition n d bs g h,
       elim (decLt (length (o .rs)) k) [
         | yes l ↦ omega (arith, start-past (o .product) (take n d) (o .rs) k (o .sound) (omega arith), o .starts, length-take-le n d (o .within), lost-later k m (λ e. omega arith))
         | no l ↦ behind (o .product) (o .rs) (o .sound) (o .within) (o .many) (o .starts) (omega arith)

@@ -19,8 +19,8 @@ use Rattle.rule.specs.Parts.{front, front-long, back, back-long, headBytes, inn
 use Rattle.deck.specs.Written.{before, before-long, rules, rules-cons, rules-later, startOf, written-is}
 use Rattle.buffer.specs.Laid.{putIn, opened, moved, up}
 use Rattle.buffer.specs.Holds.{Holds, Gap, holds-start, holds-put, holds-open, holds-up}
-use Rattle.locate.specs.Steps.{Sound, Here, here, nameEnd, name-end}
-use Rattle.plan.specs.Makes.{here-in}
+use Rattle.locate.specs.Steps.{Sound, Here, here, nameEnd}
+use Rattle.plan.specs.Makes.{name-ends}
 use Rattle.parts.specs.Head.{head-long, head-short}
 
 -- how many bytes the rules from place k of m lose where a rule comes before them: "The rule at place 0 always has the long head .. others have the short one"
@@ -183,7 +183,7 @@ second-is r later = rules-cons 1 r later ∙ ap (λ (t : List ℕ). front r ++ (
 module _ (n : ℕ) (d : List ℕ) {p : Product} {rs : List Rule} (h : Here p (take n d) rs 0) where
   name-at : nameEnd d 7 ≡ 11 + length (string .write (h .r .name))
   unfolding startOf rules eachWrite
-  name-at = name-end d 7 p 0 (h .r) (here-in n d h) ∙ omega arith
+  name-at = name-ends n d h ∙ omega arith
 
   ends-at : startOf rs 1 ≡ nameEnd d 7 + 44 + length (inner (h .r .elements))
   unfolding startOf rules eachWrite sizeOf

@@ -5,23 +5,12 @@ use locate::Spot;
 ghost use mathlib.Core.Path.{_≡_};
 ghost use Prim.Native.Nat.{_+_, _-_, _≤_, _<_};
 ghost use lib.ListN.{length};
-ghost use Rattle.rule.specs.Parts.{headBytes};
 ghost use Rattle.buffer.specs.Laid.{putIn};
 ghost use Rattle.plan.specs.Edit.{insert};
 ghost use Rattle.plan.specs.Found.{Edits, Makes, Within};
 ghost use Rattle.insert.specs.Copy.{copied, copySize};
 ghost use Rattle.insert.specs.Place.{lost, Opens};
 ghost use Rattle.insert.specs.Insert.{Sizes, Copied, Inserts, Copies, Copyable};
-
-// How many bytes the head of rule i has.
-fn head_size(i: u64) -> usize
-    ensures { λ r. ⌜ (r ≡ length (headBytes i)) × (r ≤ 18) ⌝ }
-{
-    if i == 0 {
-        return 18;
-    }
-    2
-}
 
 // How many bytes the rules from place k of m lose where a rule comes before them: the old first rule gives its long head up.
 fn lost_at(k: u64, m: u64) -> usize
@@ -43,7 +32,7 @@ fn put_rule(buf: &mut [u8], at: usize, front: &[u8], count: &[u8], els: &[u8], i
 {
     let size = at + front.len();
     let head = size + 6;
-    let long = head_size(i);
+    let long = parts::head_size(i);
     buffer::put_bytes(buf, at, front);
     buffer::put_number(buf, size, 4, (2 + long + els.len()) as u64);
     buffer::put_bytes(buf, size + 4, count);
@@ -121,7 +110,7 @@ fn copy_rule(
     if 256 <= m {
         return Outcome::No(Fault::Rules, 0);
     }
-    let len = front.len() + 6 + head_size(k) + els.len();
+    let len = front.len() + 6 + parts::head_size(k) + els.len();
     let new = n + (len - lost_at(k, m));
     if 60000 < new {
         return Outcome::No(Fault::Large, 0);
@@ -157,7 +146,7 @@ fn insert_copy(
         return Outcome::No(Fault::Absent, 1);
     }
     let size = locate::name_end(second, c) + 20;
-    let first = size + 6 + head_size(j);
+    let first = size + 6 + parts::head_size(j);
     let front = &second[c..size];
     let count = &second[size + 4..size + 6];
     let els = &second[first..e];

@@ -1,6 +1,6 @@
 -- From rule to rule of a sound deck.
 use Prim.Native.Nat.{ℕ, zero, suc, _+_, _-_, _≤_, _<_}
-use native.Mathlib.Nat.{add-zero, zero-add}
+use native.Mathlib.Nat.{zero-add}
 use native.Mathlib.Omega.{arith}
 use native.Mathlib.Decide.{decLt}
 use mathlib.Core.Path.{_≡_, refl, sym, ap, _∙_}
@@ -13,10 +13,10 @@ use lib.Seq.{take-all, drop-at, length-take-le}
 use Rattle.format.specs.declared.Fault.{Fault}
 use Rattle.format.specs.declared.Read.{Read}
 use Rattle.format.specs.declared.Read.the-variants.{Got, No}
-use Rattle.format.specs.Format.{Answer, got, refused, Format, Bytes, pick}
+use Rattle.format.specs.Format.{Answer, got, refused, Bytes, pick}
 use Rattle.format.specs.Join.{via, pair}
 use Rattle.format.specs.Number.{number, spelt, length-spelt}
-use Rattle.format.specs.Each.{each, eachWrite, AllFit, counted}
+use Rattle.format.specs.Each.{each, eachWrite, AllFit, all-drop, counted}
 use Rattle.format.specs.Seen.{seen, itself, unlike}
 use Rattle.format.specs.Written.{behind, seen-back}
 use Rattle.format.specs.Back.{seen-ends}
@@ -54,12 +54,6 @@ pub record Here (p : Product) (s : List ℕ) (rs : List Rule) (k : ℕ) : Type 0
   pub is : s ≡ before (length rs) (take k rs) ++ (front r ++ (back k (r .elements) ++ rules (k + 1) later))
   pub starts : length (before (length rs) (take k rs)) ≡ startOf rs k
   pub ends : startOf rs (k + 1) ≡ startOf rs k + (length (front r) + length (back k (r .elements)))
-
-all-drop : {A : Type 0} (a : ℕ → Format A) (i k : ℕ) (xs : List A) → AllFit a i xs → AllFit a (i + k) (drop k xs)
-unfolding AllFit
-all-drop a i zero xs f = rw add-zero f
-all-drop a i (suc k) [] f = tt
-all-drop a i (suc k) (x ∷ xs) f = let e : i + suc k ≡ i + 1 + k = omega arith in rw e (all-drop a (i + 1) k xs (f .1))
 
 taken : {A : Type 0} (k : ℕ) (xs ys : List A) (x : A) → drop k xs ≡ x ∷ ys → take (k + 1) xs ≡ take k xs ++ (x ∷ [])
 taken zero [] ys x e = absurd (let z : _≡_ {A = ℕ} 0 1 = cc in omega arith)

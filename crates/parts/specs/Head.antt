@@ -1,5 +1,5 @@
 -- The head of a rule as it is put down.
-use Prim.Native.Nat.{ℕ, _<_}
+use Prim.Native.Nat.{ℕ, _<_, _≤_}
 use native.Mathlib.Omega.{arith}
 use mathlib.Core.Path.{_≡_, refl, sym, ap, _∙_}
 use mathlib.Core.Bool.{Bool}
@@ -31,6 +31,13 @@ head-long = sym (ap length head-first)
 
 pub head-short : (i : ℕ) → 0 < i → length (headBytes i) ≡ 2
 head-short i h = sym (ap length (head-other i (λ e. omega arith))) ∙ length-spelt 2 0x8001
+
+-- as the code measures it
+pub head-none : {i : ℕ} → i ≡ 0 → (18 ≡ length (headBytes i)) × (18 ≤ 18)
+head-none e = (sym (ap (λ (j : ℕ). length (headBytes j)) e ∙ head-long), omega arith)
+
+pub head-some : {i : ℕ} → 0 < i → (2 ≡ length (headBytes i)) × (2 ≤ 18)
+head-some {i} h = (sym (head-short i h), omega arith)
 
 module _ (d : List ℕ) (at i : ℕ) {y : List ℕ} where
   pub put-first : i ≡ 0 → y ≡ putIn d at firstBytes → y ≡ putIn d at (headBytes i)

@@ -1,6 +1,7 @@
 -- A String as it is written from the bytes of its units.
 use Prim.Native.Nat.{ℕ, _+_, _*_, _/_, _%_, _≤_, _<_}
 use native.Mathlib.Omega.{arith}
+use native.Mathlib.Decide.{decLt}
 use mathlib.Core.Path.{_≡_, refl}
 use mathlib.Core.Bool.{Bool, true, false, _&&_}
 use mathlib.Core.List.{List, [], _∷_, _++_, append-nil}
@@ -78,6 +79,17 @@ size-short s h e = rw (le-leb (length s) 510 h, length-append, short-form (lengt
 pub size-none : (s : List ℕ) → 510 < length s → 0 ≡ textSize s
 unfolding textSize pick
 size-none s h = rw (lt-leb (length s) 510 h)
+
+-- a String is short
+pub text-small : (s : List ℕ) → textSize s ≤ 513
+text-small s =
+    elim (decLt 510 (length s)) [
+      | yes l ↦ omega (arith, size-none s l)
+      | no l ↦ elim (decLt (length s / 2) 255) [
+        | yes h ↦ omega (arith, size-short s (omega arith) (λ e. omega arith))
+        | no h ↦ omega (arith, size-long s (omega arith) (omega arith))
+      ]
+    ]
 
 pub text-long : (d : List ℕ) (at : ℕ) (s : List ℕ) {y : List ℕ} → length s / 2 ≡ 255 → y ≡ putIn d at (spelt 3 0x00FFFF ++ s) → y ≡ putIn d at (textBytes s)
 unfolding textBytes

@@ -1,6 +1,8 @@
 // The parts of a deck as they are put into a buffer: a String, and the head of a rule.
 ghost use mathlib.Core.Path.{_≡_};
 ghost use mathlib.Core.List.{_++_};
+ghost use Prim.Native.Nat.{_≤_};
+ghost use lib.ListN.{length};
 ghost use Rattle.format.specs.Number.{spelt};
 ghost use Rattle.rule.specs.Parts.{headBytes};
 ghost use Rattle.buffer.specs.Laid.{putIn};
@@ -46,6 +48,16 @@ pub fn put_text(buf: &mut [u8], at: usize, s: &[u8])
         return;
     }
     put_behind(buf, at, 1, n as u64, s);
+}
+
+// How many bytes the head of rule i has.
+pub fn head_size(i: u64) -> usize
+    ensures { λ r. ⌜ (r ≡ length (headBytes i)) × (r ≤ 18) ⌝ }
+{
+    if 0 < i {
+        return 2;
+    }
+    18
 }
 
 // The head of rule i at a place.

@@ -60,6 +60,10 @@ pub record Within (n m a b : ℕ) (d : List ℕ) : Type 0 where
 
 -- ---- as the code finds it
 
+pub edit-unknown : (edition n : ℕ) (d : List ℕ) (e : Edit) {o : Edition} → o ≡ editionOf edition → o ≡ Edition.Unknown → Edits edition n e d (Outcome.No Fault.Edition 0) d
+unfolding planned says leaves
+edit-unknown edition n d e f h = rw (← f, h) (refl, refl)
+
 module _ (k : List Rule → ℕ) (edition n : ℕ) (d : List ℕ) where
   pub found-none : {o : Edition} → o ≡ editionOf edition → o ≡ Edition.Unknown → Spot.No Fault.Edition 0 ≡ found k edition n d
   unfolding found
@@ -75,7 +79,7 @@ module _ (k : List Rule → ℕ) (edition n : ℕ) (d : List ℕ) where
     found-is e h l f = rw (← e, h) (rw (← e, h) at f ∙ rw (le-leb n (length d) l))
 
   -- what was found, by the rules that were read
-  pub record Ground (e : Edit) (m a b : ℕ) : Type 0 where
+  pub record Ground (m a b : ℕ) : Type 0 where
     pub product : Product
     pub rs : List Rule
     pub by : editionOf edition ≡ Edition.Of product
@@ -84,13 +88,41 @@ module _ (k : List Rule → ℕ) (edition n : ℕ) (d : List ℕ) where
     pub many : m ≡ length rs
     pub starts : a ≡ startOf rs (k rs)
     pub ends : b ≡ startOf rs (k rs + 1)
-    pub plans : planned edition n d e ≡ inRoom (length d) (edited product e rs)
-
-  pub edit-unknown : (e : Edit) {o : Edition} → o ≡ editionOf edition → o ≡ Edition.Unknown → Edits edition n e d (Outcome.No Fault.Edition 0) d
-  unfolding planned says leaves
-  edit-unknown e f h = rw (← f, h) (refl, refl)
+    pub plans : (e : Edit) → planned edition n d e ≡ inRoom (length d) (edited product e rs)
 
   -- c is what was found
+  module _ {c : Spot} where
+    pub ground : {m a b : ℕ} → Bytes d → c ≡ found k edition n d → c ≡ Spot.Is m a b → Ground m a b
+    unfolding found planned pick
+    ground {m} {a} {b} bs g h = by (editionOf edition) refl (sym h ∙ g)
+      where
+        read : (p : Product) (x : Answer (List Rule)) → editionOf edition ≡ Edition.Of p → n ≤ length d → readAs p (take n d) ≡ x → Spot.Is m a b ≡ located k x → ((e : Edit) → planBy (editionOf edition) n d e ≡ plan p (length d) e x) → Ground m a b
+        read p (got rs l) f i v z w = record { product = p; rs = rs; by = f; within = i; sound = sound-read p (take n d) rs l (bytes-take n d bs) v; many = (cc); starts = (cc); ends = (cc); plans = w }
+        read p (refused x y) f i v z w = absurd (let u : _≡_ {A = ℕ} 0 1 = cc in omega arith)
+
+        stated : (p : Product) (t : Bool) → leb n (length d) ≡ t → editionOf edition ≡ Edition.Of p → Spot.Is m a b ≡ pick t (located k (readAs p (take n d))) (Spot.No Fault.Stated 0)
+            → ((e : Edit) → planBy (editionOf edition) n d e ≡ pick t (plan p (length d) e (readAs p (take n d))) (refuse Fault.Stated 0)) → Ground m a b
+        stated p true t f z w = read p (readAs p (take n d)) f (leb-true n (length d) t) refl z w
+        stated p false t f z w = absurd (let u : _≡_ {A = ℕ} 0 1 = cc in omega arith)
+
+        by : (o : Edition) → editionOf edition ≡ o → Spot.Is m a b ≡ foundBy o k n d → Ground m a b
+        by (Edition.Of p) f z = stated p (leb n (length d)) refl f z (λ e. ap (λ (o : Edition). planBy o n d e) f)
+        by Edition.Unknown f z = absurd (let u : _≡_ {A = ℕ} 0 1 = cc in omega arith)
+
+    -- the bounds that keep sums from wrapping
+    pub found-within : {m a b : ℕ} → Bytes d → c ≡ found k edition n d → c ≡ Spot.Is m a b → Within n m a b d
+    found-within bs g h =
+        let o = ground bs g h in
+        let w = start-within (o .product) (take n d) (o .rs) (k (o .rs)) (o .sound) in
+        let l = length-take-le n d (o .within) in
+        record {
+          order = omega (arith, w .0, o .starts, o .ends);
+          inside = omega (arith, w .1, o .ends, l);
+          room = o .within;
+          short = omega (arith, o .sound .short, l);
+          few = omega (arith, o .many, deck-small (o .product) (o .rs) (o .sound .fit));
+        }
+
   module _ (e : Edit) {c : Spot} where
     pub edit-no : {f : Fault} {q : ℕ} → c ≡ found k edition n d → c ≡ Spot.No f q → Edits edition n e d (Outcome.No f q) d
     unfolding found planned pick says leaves
@@ -109,40 +141,9 @@ module _ (k : List Rule → ℕ) (edition n : ℕ) (d : List ℕ) where
         by (Edition.Of p) z = stated p (leb n (length d)) z
         by Edition.Unknown z = ((cc), refl)
 
-    pub ground : {m a b : ℕ} → Bytes d → c ≡ found k edition n d → c ≡ Spot.Is m a b → Ground e m a b
-    unfolding found planned pick
-    ground {m} {a} {b} bs g h = by (editionOf edition) refl (sym h ∙ g)
-      where
-        read : (p : Product) (x : Answer (List Rule)) → editionOf edition ≡ Edition.Of p → n ≤ length d → readAs p (take n d) ≡ x → Spot.Is m a b ≡ located k x → planBy (editionOf edition) n d e ≡ plan p (length d) e x → Ground e m a b
-        read p (got rs l) f i v z w = record { product = p; rs = rs; by = f; within = i; sound = sound-read p (take n d) rs l (bytes-take n d bs) v; many = (cc); starts = (cc); ends = (cc); plans = w }
-        read p (refused x y) f i v z w = absurd (let u : _≡_ {A = ℕ} 0 1 = cc in omega arith)
-
-        stated : (p : Product) (t : Bool) → leb n (length d) ≡ t → editionOf edition ≡ Edition.Of p → Spot.Is m a b ≡ pick t (located k (readAs p (take n d))) (Spot.No Fault.Stated 0)
-            → planBy (editionOf edition) n d e ≡ pick t (plan p (length d) e (readAs p (take n d))) (refuse Fault.Stated 0) → Ground e m a b
-        stated p true t f z w = read p (readAs p (take n d)) f (leb-true n (length d) t) refl z w
-        stated p false t f z w = absurd (let u : _≡_ {A = ℕ} 0 1 = cc in omega arith)
-
-        by : (o : Edition) → editionOf edition ≡ o → Spot.Is m a b ≡ foundBy o k n d → Ground e m a b
-        by (Edition.Of p) f z = stated p (leb n (length d)) refl f z (ap (λ (o : Edition). planBy o n d e) f)
-        by Edition.Unknown f z = absurd (let u : _≡_ {A = ℕ} 0 1 = cc in omega arith)
-
     pub edit-done : {m a b : ℕ} {r : Outcome} {d′ : List ℕ} → Bytes d → c ≡ found k edition n d → c ≡ Spot.Is m a b → Makes edition k n m a b e d r d′ → Edits edition n e d r d′
     unfolding Makes
-    edit-done bs g h w = let o = ground bs g h in rw (o .plans) (w (o .product) (o .rs) (o .by) (o .sound) (o .within) (o .many) (o .starts) (o .ends))
-
-    -- the bounds that keep sums from wrapping
-    pub found-within : {m a b : ℕ} → Bytes d → c ≡ found k edition n d → c ≡ Spot.Is m a b → Within n m a b d
-    found-within bs g h =
-        let o = ground bs g h in
-        let w = start-within (o .product) (take n d) (o .rs) (k (o .rs)) (o .sound) in
-        let l = length-take-le n d (o .within) in
-        record {
-          order = omega (arith, w .0, o .starts, o .ends);
-          inside = omega (arith, w .1, o .ends, l);
-          room = o .within;
-          short = omega (arith, o .sound .short, l);
-          few = omega (arith, o .many, deck-small (o .product) (o .rs) (o .sound .fit));
-        }
+    edit-done bs g h w = let o = ground bs g h in rw (o .plans e) (w (o .product) (o .rs) (o .by) (o .sound) (o .within) (o .many) (o .starts) (o .ends))
 
     -- by a product that was told before
     pub edit-made : {m a b : ℕ} {r : Outcome} {d′ : List ℕ} {o : Edition} {p : Product} → Bytes d → c ≡ found k edition n d → c ≡ Spot.Is m a b → o ≡ editionOf edition → o ≡ Edition.Of p → MakesAs p k n m a e d r d′ → Edits edition n e d r d′

@@ -3,3 +3,4 @@ pub mod Element
 pub mod Edit
 pub mod Found
 pub mod Makes
+pub mod Last

@@ -1,25 +1,29 @@
 -- How an edit is shown to do its plan: from a sound deck in a buffer, through what is done to the buffer, to the deck of the edited list.
-use Prim.Native.Nat.{ℕ, _+_, _≤_, _<_, max}
+use Prim.Native.Nat.{ℕ, _+_, _-_, _≤_, _<_, max}
 use native.Mathlib.Omega.{arith}
 use mathlib.Core.Path.{_≡_, refl, sym, ap, ap₂, _∙_}
+use mathlib.Core.Bool.{true, false}
 use mathlib.Core.List.{List, [], _∷_, _++_, append-assoc}
 use lib.ListN.{length, take, drop, length-append, take-append-drop, drop-of-length-le}
 use lib.Seq.{drop-at, length-take-le}
-use borrow.Author.Tests.{le-leb, lt-leb}
+use borrow.Author.Tests.{le-leb, lt-leb, lt-ltb, le-ltb}
 use Rattle.format.specs.declared.Fault.{Fault}
 use Rattle.format.specs.declared.Fault.the-variants as Fault
 use Rattle.format.specs.declared.Outcome.{Outcome}
 use Rattle.format.specs.declared.Outcome.the-variants as Outcome
-use Rattle.format.specs.Format.{pick}
+use Rattle.format.specs.Format.{Answer, got, refused, pick}
+use Rattle.text.specs.Text.{string}
 use Rattle.kind.specs.declared.Product.{Product}
+use Rattle.element.specs.Element.{Element}
 use Rattle.rule.specs.Rule.{Rule}
 use Rattle.rule.specs.Parts.{front, back}
 use Rattle.deck.specs.Written.{written, written-is, before, rules, rules-cons, startOf}
 use Rattle.deck.specs.Deck.{deck-small}
 use Rattle.buffer.specs.Laid.{laid}
 use Rattle.buffer.specs.Holds.{Holds}
-use Rattle.locate.specs.Steps.{Sound, Here, Stands}
-use Rattle.plan.specs.Edit.{Plan, become, refuse, refuseGiven, atRule, room, says, leaves}
+use Rattle.locate.specs.Steps.{Sound, Here, Stands, nameEnd, name-end}
+use Rattle.plan.specs.Given.{isText}
+use Rattle.plan.specs.Edit.{Plan, become, refuse, refuseGiven, atRule, atLast, ifText, unlessFull, atGiven, room, says, leaves}
 use Rattle.plan.specs.Found.{Does}
 
 -- ---- the deck that is found
@@ -33,6 +37,9 @@ module _ (n : ℕ) (d : List ℕ) {p : Product} {rs : List Rule} where
       let P = before (length rs) (take k rs) in
       let w : d ≡ P ++ (front (h .r) ++ (back k (h .r .elements) ++ (L ++ drop n d))) = sym (take-append-drop n d) ∙ ap (λ (z : List ℕ). z ++ drop n d) (h .is) ∙ simp append-assoc in
       (h .fits, (L ++ drop n d, ap (drop (startOf rs k)) w ∙ drop-at P _ (startOf rs k) (h .starts)))
+
+  pub name-ends : {k : ℕ} (h : Here p (take n d) rs k) → nameEnd d (startOf rs k) ≡ startOf rs k + 4 + length (string .write (h .r .name))
+  name-ends {k} h = name-end d (startOf rs k) p k (h .r) (here-in h)
 
   -- n is its length, and it is of at most 256 rules
   pub sound-length : n ≤ length d → Sound p (take n d) rs → length (written rs) ≡ n
@@ -64,6 +71,38 @@ at-rule rs k f e = rw e
 pub no-rule : (rs : List Rule) (k : ℕ) (f : Rule → List Rule → Plan) → length rs ≤ k → atRule (drop k rs) f ≡ refuse Fault.Absent 0
 unfolding atRule
 no-rule rs k f l = let e : drop k rs ≡ [] = drop-of-length-le rs {i = k} l in rw e
+
+pub at-last : (rs : List Rule) (k : ℕ) {r : Rule} {later : List Rule} (f : Rule → Plan) → drop k rs ≡ r ∷ later → atLast (drop k rs) f ≡ f r
+unfolding atLast
+at-last rs k f e = rw e
+
+pub no-last : (rs : List Rule) (f : Rule → Plan) → length rs ≡ 0 → atLast (drop (length rs - 1) rs) f ≡ refuse Fault.Last 0
+unfolding atLast
+no-last rs f l = let e : drop (length rs - 1) rs ≡ [] = drop-of-length-le rs {i = length rs - 1} (omega arith) in rw e
+
+pub if-text : (s : List ℕ) (q : Plan) → isText s ≡ true → ifText s q ≡ q
+unfolding ifText pick
+if-text s q e = rw e
+
+pub no-text : (s : List ℕ) (q : Plan) → isText s ≡ false → ifText s q ≡ refuse Fault.Text 0
+unfolding ifText pick
+no-text s q e = rw e
+
+pub not-full : (c : ℕ) (q : Plan) → c < 64 → unlessFull c q ≡ q
+unfolding unlessFull pick
+not-full c q l = rw (lt-ltb c 64 l)
+
+pub full : (c : ℕ) (q : Plan) → 64 ≤ c → unlessFull c q ≡ refuse Fault.Full 0
+unfolding unlessFull pick
+full c q l = rw (le-ltb c 64 l)
+
+pub at-given : {a : Answer Element} (f : Element → Plan) {x : Element} {l : ℕ} → a ≡ got x l → atGiven a f ≡ f x
+unfolding atGiven
+at-given f e = rw e
+
+pub no-given : {a : Answer Element} (f : Element → Plan) {c : Fault} {q : ℕ} → a ≡ refused c q → atGiven a f ≡ refuseGiven c q
+unfolding atGiven
+no-given f e = rw e
 
 -- ---- what a plan comes to
 module _ (n : ℕ) (d : List ℕ) {q : Plan} where

@@ -70,36 +70,36 @@ abbrev pub fitted : Kind → ℕ → Value → Fitted
 fitted k id v = pick (isOf k id v) (fromValue v) (lacks Fault.Field 0)
 
 -- what is to be written, or the refusal: "1, then 41 or 42, then 40, then 43, then 20"
-pub data Plan : Type 0 where
-  write : List ℕ → Plan
-  refuse : Outcome → Plan
+pub data Putting : Type 0 where
+  write : List ℕ → Putting
+  deny : Outcome → Putting
 
-unfoldable pub ifRoom : ℕ → List ℕ → Plan
-ifRoom room bs = pick (leb (length bs) room) (write bs) (refuse (Outcome.No Fault.Room 0))
+unfoldable pub ifRoom : ℕ → List ℕ → Putting
+ifRoom room bs = pick (leb (length bs) room) (write bs) (deny (Outcome.No Fault.Room 0))
 
-abbrev pub planData : Format Data → ℕ → Fitted → Plan
+abbrev pub planData : Format Data → ℕ → Fitted → Putting
 planData a room (holds d) = ifRoom room (a .write d)
-planData a room (lacks c p) = refuse (Outcome.Given c p)
+planData a room (lacks c p) = deny (Outcome.Given c p)
 
-unfoldable pub planKind : Kind → ℕ → Value → ℕ → Plan
+unfoldable pub planKind : Kind → ℕ → Value → ℕ → Putting
 planKind k id v room = planData (dataOf k) room (fitted k id v)
 
-abbrev pub planRow : Row → ℕ → Value → ℕ → Plan
+abbrev pub planRow : Row → ℕ → Value → ℕ → Putting
 planRow (Row.Is k) id v room = planKind k id v room
-planRow (Row.No c p) id v room = refuse (Outcome.Given c p)
+planRow (Row.No c p) id v room = deny (Outcome.Given c p)
 
-abbrev pub planEdition : Edition → ℕ → Value → ℕ → Plan
+abbrev pub planEdition : Edition → ℕ → Value → ℕ → Putting
 planEdition (Edition.Of p) id v room = planRow (rowOf p id) id v room
-planEdition Edition.Unknown id v room = refuse (Outcome.No Fault.Edition 0)
+planEdition Edition.Unknown id v room = deny (Outcome.No Fault.Edition 0)
 
-unfoldable pub plan : ℕ → ℕ → Value → ℕ → Plan
-plan edition id v room = planEdition (editionOf edition) id v room
+unfoldable pub putting : ℕ → ℕ → Value → ℕ → Putting
+putting edition id v room = planEdition (editionOf edition) id v room
 
 -- the answer, "the bytes written", and the buffer, "touching no byte past the data"
-unfoldable pub says : Plan → Outcome
-says (write bs) = Outcome.Done (length bs)
-says (refuse o) = o
+unfoldable pub putSays : Putting → Outcome
+putSays (write bs) = Outcome.Done (length bs)
+putSays (deny o) = o
 
-unfoldable pub leaves : List ℕ → Plan → List ℕ
-leaves buf (write bs) = bs ++ drop (length bs) buf
-leaves buf (refuse o) = buf
+unfoldable pub putLeaves : List ℕ → Putting → List ℕ
+putLeaves buf (write bs) = bs ++ drop (length bs) buf
+putLeaves buf (deny o) = buf

@@ -1,13 +1,12 @@
--- Bytes put at a place of a buffer, as the code writes them.
-use Prim.Native.Nat.{ℕ, zero, suc, _+_, _-_, _/_, _%_, _≤_, _<_}
-use native.Mathlib.Nat.{add-zero, sub-zero, zero-add}
+-- The data of a value put into a buffer, as the code does it.
+use Prim.Native.Nat.{ℕ, _+_, _≤_, _<_}
+use native.Mathlib.Nat.{zero-add}
 use native.Mathlib.Omega.{arith}
-use mathlib.Core.Path.{_≡_, refl, sym, ap, ap₂, _∙_}
+use mathlib.Core.Path.{_≡_, refl, sym, ap, _∙_}
 use mathlib.Core.Bool.{Bool, true, false, not, _&&_}
-use mathlib.Core.List.{List, [], _∷_, _++_, append-assoc}
+use mathlib.Core.List.{List, _++_}
 use lib.Dec.{eqb}
-use lib.ListN.{length, take, drop, set, length-append, take-append-drop}
-use lib.Seq.{take-append-seam, drop-append-seam, drop-drop, length-take-le}
+use lib.ListN.{length, set}
 use lib.Ieee.{Float, binary64, toBits}
 use borrow.Author.Tests.{le-leb, lt-leb, ne-eqb, eqb-true, not-true, not-false}
 use Rattle.format.specs.declared.Fault.{Fault}
@@ -17,6 +16,7 @@ use Rattle.format.specs.declared.Outcome.the-variants as Outcome
 use Rattle.format.specs.Format.{pick, Format}
 use Rattle.format.specs.Join.{pair, pairWrite, seq, _then_, judged, via}
 use Rattle.format.specs.Number.{number, spelt, fixed, flag, bit}
+use Rattle.buffer.specs.Laid.{put, putIn, put-in, put-both}
 use Rattle.date.specs.Date.{date}
 use Rattle.element.specs.Data.{Data, plain, sizes, span, Limit, oneZero, markerData, simpleData, wordData, sizeData, limit, dateData, dataOf}
 use Rattle.date.specs.Double.{accepted}
@@ -31,15 +31,11 @@ use Rattle.kind.specs.declared.Kind.the-variants as Kind
 use Rattle.value.specs.declared.Span.{Span}
 use Rattle.value.specs.declared.Value.{Value}
 use Rattle.value.specs.declared.Value.the-variants as Value
-use Rattle.put.specs.Plan.{afterOf, beforeOf, fromSpan, shape, isOf, fromValue, planData, planKind, plan, Plan, refuse, ifRoom, says, leaves}
-
--- bs in place of the bytes at a place
-unfoldable pub put : List ℕ → ℕ → List ℕ → List ℕ
-put xs at bs = take at xs ++ (bs ++ drop (at + length bs) xs)
+use Rattle.put.specs.Plan.{afterOf, beforeOf, fromSpan, shape, isOf, fromValue, planData, planKind, putting, Putting, deny, ifRoom, putSays, putLeaves}
 
 -- what a plan is to the answer and the buffer
-abbrev pub Does : List ℕ → Plan → Outcome → List ℕ → Type 0
-Does xs p r ys = (r ≡ says p) × (ys ≡ leaves xs p)
+abbrev pub Puts : List ℕ → Putting → Outcome → List ℕ → Type 0
+Puts xs p r ys = (r ≡ putSays p) × (ys ≡ putLeaves xs p)
 
 abbrev pub limitOf : Bool → Float → Limit
 limitOf b x = record { set = b; at = toBits binary64 x }
@@ -47,97 +43,33 @@ limitOf b x = record { set = b; at = toBits binary64 x }
 abbrev pub spanData : Span → Data
 spanData v = span (afterOf v) (beforeOf v)
 
--- ---- one after the other
-
-put-cons : (y : ℕ) (zs : List ℕ) (n : ℕ) (bs : List ℕ) → put (y ∷ zs) (suc n) bs ≡ y ∷ put zs n bs
-unfolding put
-put-cons y zs n bs = let e : suc n + length bs ≡ suc (n + length bs) = omega arith in rw e
-
--- none, and one more
-pub put-none : (xs : List ℕ) (at : ℕ) → put xs at [] ≡ xs
-unfolding put
-put-none xs at = rw add-zero (take-append-drop at xs)
-
-put-next : (xs : List ℕ) (at x : ℕ) (ys : List ℕ) → at < length xs → put (set xs at x) (suc at) ys ≡ put xs at (x ∷ ys)
-unfolding put
-put-next [] at x ys h = absurd (omega arith)
-put-next (y ∷ xs) zero x ys h =
-    let e : 1 + length ys ≡ suc (length ys) = omega arith in
-    let f : 0 + suc (length ys) ≡ suc (length ys) = omega arith in
-    rw (e, f)
-put-next (y ∷ xs) (suc at) x ys h = put-cons y (set xs at x) (suc at) ys ∙ ap (λ (zs : List ℕ). y ∷ zs) (put-next xs at x ys (omega arith)) ∙ sym (put-cons y xs at (x ∷ ys))
-
--- bytes behind the bytes that were put
-behind : (ps d cs : List ℕ) → put (ps ++ d) (length ps) cs ≡ ps ++ (cs ++ drop (length cs) d)
-unfolding put
-behind ps d cs = rw (take-append-seam, ← drop-drop (length cs) (length ps) (ps ++ d), drop-append-seam)
-
-pub put-on : (xs : List ℕ) (at : ℕ) (bs cs : List ℕ) → at ≤ length xs → put (put xs at bs) (at + length bs) cs ≡ put xs at (bs ++ cs)
-unfolding put
-put-on xs at bs cs h =
-    let a = take at xs in
-    let d = drop (at + length bs) xs in
-    let w : at + length bs ≡ length (a ++ bs) = omega (arith, length-append a bs, length-take-le at xs h) in
-    let l : at + length bs + length cs ≡ at + length (bs ++ cs) = omega (arith, length-append bs cs) in
-    let e : drop (length cs) d ≡ drop (at + length (bs ++ cs)) xs = drop-drop (length cs) (at + length bs) xs ∙ ap (λ (n : ℕ). drop n xs) l in
-    ap₂ (λ (z : List ℕ) (n : ℕ). put z n cs) (sym (append-assoc a bs d)) w ∙ behind (a ++ bs) d cs
-    ∙ ap (λ (z : List ℕ). (a ++ bs) ++ (cs ++ z)) e ∙ append-assoc a bs (cs ++ drop (at + length (bs ++ cs)) xs)
-    ∙ ap (λ (z : List ℕ). a ++ z) (sym (append-assoc bs cs (drop (at + length (bs ++ cs)) xs)))
-
--- ---- the bytes of a number, one a turn
-
-module _ (at k : ℕ) {goal : List ℕ} where
-  pub turn-first : (xs : List ℕ) (n : ℕ) → goal ≡ put xs at (spelt k n) → put xs (at + 0) (spelt (k - 0) n) ≡ goal
-  turn-first xs n e = rw (add-zero, sub-zero) (sym e)
-
-  pub turn-next : (xs : List ℕ) (i n : ℕ) → put xs (at + i) (spelt (k - i) n) ≡ goal → i < k → at + i < length xs
-      → put (set xs (at + i) (n % 256)) (at + (i + 1)) (spelt (k - (i + 1)) (n / 256)) ≡ goal
-  unfolding spelt
-  turn-next xs i n e l h =
-      let p : at + (i + 1) ≡ suc (at + i) = omega arith in
-      let q : suc (k - (i + 1)) ≡ k - i = omega arith in
-      ap (λ (m : ℕ). put (set xs (at + i) (n % 256)) m (spelt (k - (i + 1)) (n / 256))) p
-      ∙ put-next xs (at + i) (n % 256) (spelt (k - (i + 1)) (n / 256)) h ∙ ap (λ (m : ℕ). put xs (at + i) (spelt m n)) q ∙ e
-
-  pub turn-last : (xs : List ℕ) (i n : ℕ) → put xs (at + i) (spelt (k - i) n) ≡ goal → k ≤ i → xs ≡ goal
-  unfolding spelt
-  turn-last xs i n e l = let z : k - i ≡ 0 = omega arith in sym (put-none xs (at + i)) ∙ (rw z at e)
-
 -- ---- the data, put number by number
 
-pub put-two : (xs : List ℕ) (at : ℕ) (bs cs : List ℕ) {ds ys zs : List ℕ} {m : ℕ} → ys ≡ put xs at bs → zs ≡ put ys m cs → bs ++ cs ≡ ds → m ≡ at + length bs → at ≤ length xs → zs ≡ put xs at ds
-put-two xs at bs cs e f d l h = f ∙ ap₂ (λ (z : List ℕ) (n : ℕ). put z n cs) e l ∙ put-on xs at bs cs h ∙ ap (put xs at) d
-
-pub one-zero-put : (xs : List ℕ) {ys : List ℕ} → ys ≡ put xs 0 (spelt 8 1) → ys ≡ put xs 0 (oneZero .write tt)
+pub one-zero-put : (xs : List ℕ) {ys : List ℕ} → ys ≡ putIn xs 0 (spelt 8 1) → ys ≡ putIn xs 0 (oneZero .write tt)
 unfolding oneZero fixed _then_ seq pair pairWrite via judged number spelt
 one-zero-put xs e = e
 
-limit-is : (b : Bool) (n : ℕ) → spelt 8 (bit b) ++ spelt 8 n ≡ limit .write (record { set = b; at = n })
-unfolding limit flag fixed date bit pick _then_ seq pair pairWrite via judged number spelt
-limit-is true n = refl
-limit-is false n = refl
+pub limit-put : (xs : List ℕ) (at : ℕ) (b : Bool) (n : ℕ) {ys zs ws : List ℕ} → ys ≡ putIn xs at (spelt 4 (bit b)) → zs ≡ putIn ys (at + 4) (spelt 4 0) → ws ≡ putIn zs (at + 8) (spelt 8 n) → at + 16 ≤ length xs
+    → ws ≡ putIn xs at (limit .write (record { set = b; at = n }))
+unfolding limit flag fixed date _then_ seq pair pairWrite via judged number spelt
+limit-put xs at b n e f g h = put-both xs at (spelt 4 (bit b) ++ spelt 4 0) (spelt 8 n) (put-both xs at (spelt 4 (bit b)) (spelt 4 0) e f refl (omega arith)) g refl (omega arith)
 
-pub limit-put : (xs : List ℕ) (at : ℕ) (b : Bool) (n : ℕ) {x : ℕ} {ys zs : List ℕ} → x ≡ bit b → ys ≡ put xs at (spelt 8 x) → zs ≡ put ys (at + 8) (spelt 8 n) → at ≤ length xs
-    → zs ≡ put xs at (limit .write (record { set = b; at = n }))
-unfolding spelt
-limit-put xs at b n i e f h = put-two xs at _ _ (rw i at e) f (limit-is b n) refl h
-
-module _ (xs : List ℕ) {ys : List ℕ} (e : ys ≡ put xs 0 (oneZero .write tt)) where
-  pub simple-put : ys ≡ put xs 0 (simpleData .write plain)
+module _ (xs : List ℕ) {ys : List ℕ} (e : ys ≡ putIn xs 0 (oneZero .write tt)) where
+  pub simple-put : ys ≡ putIn xs 0 (simpleData .write plain)
   unfolding simpleData via
   simple-put = e
 
-  pub marker-put : {zs : List ℕ} → zs ≡ put ys 8 (spelt 4 1) → zs ≡ put xs 0 (markerData .write plain)
+  pub marker-put : {zs : List ℕ} → zs ≡ putIn ys 8 (spelt 4 1) → 12 ≤ length xs → zs ≡ putIn xs 0 (markerData .write plain)
   unfolding markerData oneZero fixed _then_ seq pair pairWrite via judged number spelt
-  marker-put f = put-two xs 0 _ _ e f refl refl (omega arith)
+  marker-put f h = put-both xs 0 _ _ e f refl h
 
-  pub sizes-put : (a b : ℕ) {zs ws : List ℕ} → zs ≡ put ys 8 (spelt 4 a) → ws ≡ put zs 12 (spelt 4 b) → ws ≡ put xs 0 (sizeData .write (sizes a b))
+  pub sizes-put : (a b : ℕ) {zs ws : List ℕ} → zs ≡ putIn ys 8 (spelt 4 a) → ws ≡ putIn zs 12 (spelt 4 b) → 16 ≤ length xs → ws ≡ putIn xs 0 (sizeData .write (sizes a b))
   unfolding sizeData oneZero fixed _then_ seq pair pairWrite via judged number spelt
-  sizes-put a b f g = put-two xs 0 _ _ (put-two xs 0 _ _ e f refl refl (omega arith)) g refl refl (omega arith)
+  sizes-put a b f g h = put-both xs 0 _ _ (put-both xs 0 _ _ e f refl (omega arith)) g refl h
 
-  pub span-put : (l m : Limit) {zs ws : List ℕ} → zs ≡ put ys 8 (limit .write l) → ws ≡ put zs 24 (limit .write m) → ws ≡ put xs 0 (dateData .write (span l m))
+  pub span-put : (l m : Limit) {zs ws : List ℕ} → zs ≡ putIn ys 8 (limit .write l) → ws ≡ putIn zs 24 (limit .write m) → 40 ≤ length xs → ws ≡ putIn xs 0 (dateData .write (span l m))
   unfolding dateData limit flag date oneZero fixed _then_ seq pair pairWrite via judged number spelt
-  span-put l m f g = put-two xs 0 _ _ (put-two xs 0 _ _ e f refl refl (omega arith)) g refl refl (omega arith)
+  span-put l m f g h = put-both xs 0 _ _ (put-both xs 0 _ _ e f refl (omega arith)) g refl h
 
 pub simple-long : length (simpleData .write plain) ≡ 8
 unfolding simpleData oneZero fixed _then_ seq pair pairWrite via judged number spelt
@@ -158,16 +90,19 @@ span-long l m = refl
 -- ---- a plan that is carried out, and one that is not
 
 module _ (xs bs : List ℕ) {n : ℕ} where
-  pub no-room : length bs ≡ n → length xs < n → Does xs (ifRoom (length xs) bs) (Outcome.No Fault.Room 0) xs
-  unfolding ifRoom says leaves pick
+  pub no-room : length bs ≡ n → length xs < n → Puts xs (ifRoom (length xs) bs) (Outcome.No Fault.Room 0) xs
+  unfolding ifRoom putSays putLeaves pick
   no-room e h = let t = lt-leb (length bs) (length xs) (omega arith) in (rw t, rw t)
 
-  pub all-put : {ys : List ℕ} → ys ≡ put xs 0 bs → length bs ≡ n → n ≤ length xs → Does xs (ifRoom (length xs) bs) (Outcome.Done n) ys
-  unfolding ifRoom says leaves pick put
-  all-put o e h = let t = le-leb (length bs) (length xs) (omega arith) in (rw (t, e), rw t (rw zero-add at o))
+  pub all-put : {ys : List ℕ} → ys ≡ putIn xs 0 bs → length bs ≡ n → n ≤ length xs → Puts xs (ifRoom (length xs) bs) (Outcome.Done n) ys
+  unfolding ifRoom putSays putLeaves pick put
+  all-put o e h =
+      let t = le-leb (length bs) (length xs) (omega arith) in
+      let w = o ∙ put-in xs 0 bs (omega arith) in
+      (rw (t, e), rw t (rw zero-add at w))
 
-pub not-put : (xs : List ℕ) (o : Outcome) → Does xs (refuse o) o xs
-unfolding says leaves
+pub not-put : (xs : List ℕ) (o : Outcome) → Puts xs (deny o) o xs
+unfolding putSays putLeaves
 not-put xs o = (refl, refl)
 
 -- ---- whether a value is of a kind
@@ -190,16 +125,16 @@ module _ (k : Kind) (id : ℕ) (v : Value) {n j : ℕ} where
 -- ---- a span, by what its dates were judged
 
 module _ (xs : List ℕ) (v : Span) {t : Bool} (e : t ≡ accepted (toBits binary64 (v .after))) where
-  pub after-off : t ≡ false → Does xs (planData dateData (length xs) (fromSpan v)) (Outcome.Given Fault.Date 16) xs
+  pub after-off : t ≡ false → Puts xs (planData dateData (length xs) (fromSpan v)) (Outcome.Given Fault.Date 16) xs
   unfolding fromSpan pick
   after-off h = rw (← e, h) (not-put xs (Outcome.Given Fault.Date 16))
 
-  pub before-off : {u : Bool} → t ≡ true → u ≡ accepted (toBits binary64 (v .before)) → u ≡ false → Does xs (planData dateData (length xs) (fromSpan v)) (Outcome.Given Fault.Date 32) xs
+  pub before-off : {u : Bool} → t ≡ true → u ≡ accepted (toBits binary64 (v .before)) → u ≡ false → Puts xs (planData dateData (length xs) (fromSpan v)) (Outcome.Given Fault.Date 32) xs
   unfolding fromSpan pick
   before-off h f g = rw (← e, h, ← f, g) (not-put xs (Outcome.Given Fault.Date 32))
 
   pub span-put-by : {u : Bool} {r : Outcome} {ys : List ℕ} → t ≡ true → u ≡ accepted (toBits binary64 (v .before)) → u ≡ true
-      → Does xs (ifRoom (length xs) (dateData .write (spanData v))) r ys → Does xs (planData dateData (length xs) (fromSpan v)) r ys
+      → Puts xs (ifRoom (length xs) (dateData .write (spanData v))) r ys → Puts xs (planData dateData (length xs) (fromSpan v)) r ys
   unfolding fromSpan pick
   span-put-by h f g o = rw (← e, h, ← f, g) o
 
@@ -237,7 +172,7 @@ of-shape k id (Value.Size a b) h = eqb-true (shape k) 4 h
 of-shape k id (Value.Dates v) h = eqb-true (shape k) 5 h
 
 module _ (k : Kind) (id : ℕ) (xs : List ℕ) (v : Value) {t : Bool} (e : t ≡ isOf k id v) where
-  pub of-none : not t ≡ true → Does xs (planKind k id v (length xs)) (Outcome.Given Fault.Field 0) xs
+  pub of-none : not t ≡ true → Puts xs (planKind k id v (length xs)) (Outcome.Given Fault.Field 0) xs
   unfolding planKind pick
   of-none h = rw (← e, not-true t h) (not-put xs (Outcome.Given Fault.Field 0))
 
@@ -248,22 +183,22 @@ module _ (k : Kind) (id : ℕ) (xs : List ℕ) (v : Value) {t : Bool} (e : t ≡
       let z : dataOf k ≡ formatBy (shapeOf v) = shaped k ∙ ap formatBy (of-shape k id v y) in
       rw (y, z, f)
 
-  pub of-put : (w : Value) {r : Outcome} {ys : List ℕ} → not t ≡ false → v ≡ w → Does xs (planData (formatBy (shapeOf w)) (length xs) (fromValue w)) r ys → Does xs (planKind k id v (length xs)) r ys
+  pub of-put : (w : Value) {r : Outcome} {ys : List ℕ} → not t ≡ false → v ≡ w → Puts xs (planData (formatBy (shapeOf w)) (length xs) (fromValue w)) r ys → Puts xs (planKind k id v (length xs)) r ys
   of-put w h f o = rw (of-case w h f) o
 
 -- ---- a value, by edition and identifier
 
 module _ (edition id : ℕ) (xs : List ℕ) (v : Value) {e : Edition} where
-  pub put-none-in : e ≡ editionOf edition → e ≡ Edition.Unknown → Does xs (plan edition id v (length xs)) (Outcome.No Fault.Edition 0) xs
-  unfolding plan
+  pub put-none-in : e ≡ editionOf edition → e ≡ Edition.Unknown → Puts xs (putting edition id v (length xs)) (Outcome.No Fault.Edition 0) xs
+  unfolding putting
   put-none-in f h = rw (← f, h) (not-put xs (Outcome.No Fault.Edition 0))
 
   module _ {p : Product} {w : Row} where
-    pub put-off : {c : Fault} {q : ℕ} → e ≡ editionOf edition → e ≡ Edition.Of p → w ≡ rowOf p id → w ≡ Row.No c q → Does xs (plan edition id v (length xs)) (Outcome.Given c q) xs
-    unfolding plan
+    pub put-off : {c : Fault} {q : ℕ} → e ≡ editionOf edition → e ≡ Edition.Of p → w ≡ rowOf p id → w ≡ Row.No c q → Puts xs (putting edition id v (length xs)) (Outcome.Given c q) xs
+    unfolding putting
     put-off {c} {q} f h g i = rw (← f, h, ← g, i) (not-put xs (Outcome.Given c q))
 
     pub put-of : {k : Kind} {r : Outcome} {ys : List ℕ} → e ≡ editionOf edition → e ≡ Edition.Of p → w ≡ rowOf p id → w ≡ Row.Is k
-        → Does xs (planKind k id v (length xs)) r ys → Does xs (plan edition id v (length xs)) r ys
-    unfolding plan
+        → Puts xs (planKind k id v (length xs)) r ys → Puts xs (putting edition id v (length xs)) r ys
+    unfolding putting
     put-of f h g i o = rw (← f, h, ← g, i) o

@@ -11,63 +11,43 @@ ghost use mathlib.Core.Bool.{true};
 ghost use lib.ListN.{length};
 ghost use lib.Ieee.{binary64, toBits};
 ghost use Prim.Native.Nat.{_+_, _≤_};
-ghost use Rattle.format.specs.Number.{spelt, bit};
+ghost use Rattle.buffer.specs.Laid.{putIn};
 ghost use Rattle.date.specs.Double.{accepted};
 ghost use Rattle.element.specs.Data.{plain, sizes, oneZero, markerData, simpleData, sizeData, limit, dateData};
-ghost use Rattle.put.specs.Plan.{shape, isOf, fromSpan, ifRoom, planData, planKind, plan, says, leaves};
-ghost use Rattle.put.specs.Put.{put, Does, limitOf, spanData};
-
-// k bytes of a number, the lowest first.
-fn put_number(buf: &mut [u8], at: usize, k: usize, n: u64)
-    requires { ⌜ at + k ≤ length (now buf) ⌝ }
-    ensures { λ _. ⌜ now (buf .exit) ≡ put (now (buf .entry)) at (spelt k n) ⌝ }
-{
-    let mut i = 0;
-    let mut rest = n;
-    while i < k {
-        buf[at + i] = (rest % 256) as u8;
-        rest = rest / 256;
-        i += 1;
-    }
-}
+ghost use Rattle.put.specs.Plan.{shape, isOf, fromSpan, ifRoom, planData, planKind, putting, putSays, putLeaves};
+ghost use Rattle.put.specs.Put.{Puts, limitOf, spanData};
 
 // 1, 0: two words of 4 bytes, written as one number.
 fn put_one_zero(buf: &mut [u8])
-    requires { ⌜ 8 ≤ length (now buf) ⌝ }
-    ensures { λ _. ⌜ now (buf .exit) ≡ put (now (buf .entry)) 0 (oneZero .write tt) ⌝ }
+    ensures { λ _. ⌜ now (buf .exit) ≡ putIn (now (buf .entry)) 0 (oneZero .write tt) ⌝ }
 {
-    put_number(buf, 0, 8, 1);
+    buffer::put_number(buf, 0, 8, 1);
 }
 
-fn bit_of(yes: bool) -> u64
-    ensures { λ r. ⌜ r ≡ bit yes ⌝ }
-{
-    if yes { 1 } else { 0 }
-}
-
-// One end of a date span: flag and 0, written as one number, and the date.
+// One end of a date span: flag, 0 and the date.
 fn put_limit(buf: &mut [u8], at: usize, counts: bool, days: f64)
     requires { ⌜ at + 16 ≤ length (now buf) ⌝ }
     requires { ⌜ accepted (toBits binary64 days) ≡ true ⌝ }
-    ensures { λ _. ⌜ now (buf .exit) ≡ put (now (buf .entry)) at (limit .write (limitOf counts days)) ⌝ }
+    ensures { λ _. ⌜ now (buf .exit) ≡ putIn (now (buf .entry)) at (limit .write (limitOf counts days)) ⌝ }
 {
-    put_number(buf, at, 8, bit_of(counts));
-    put_number(buf, at + 8, 8, f64::to_bits(days));
+    buffer::put_flag(buf, at, counts);
+    buffer::put_number(buf, at + 4, 4, 0);
+    buffer::put_number(buf, at + 8, 8, f64::to_bits(days));
 }
 
 fn put_marker(buf: &mut [u8]) -> Outcome
-    ensures { λ r. ⌜ Does (now (buf .entry)) (ifRoom (length (now (buf .entry))) (markerData .write plain)) r (now (buf .exit)) ⌝ }
+    ensures { λ r. ⌜ Puts (now (buf .entry)) (ifRoom (length (now (buf .entry))) (markerData .write plain)) r (now (buf .exit)) ⌝ }
 {
     if buf.len() < 12 {
         return Outcome::No(Fault::Room, 0);
     }
     put_one_zero(buf);
-    put_number(buf, 8, 4, 1);
+    buffer::put_number(buf, 8, 4, 1);
     Outcome::Done(12)
 }
 
 fn put_simple(buf: &mut [u8]) -> Outcome
-    ensures { λ r. ⌜ Does (now (buf .entry)) (ifRoom (length (now (buf .entry))) (simpleData .write plain)) r (now (buf .exit)) ⌝ }
+    ensures { λ r. ⌜ Puts (now (buf .entry)) (ifRoom (length (now (buf .entry))) (simpleData .write plain)) r (now (buf .exit)) ⌝ }
 {
     if buf.len() < 8 {
         return Outcome::No(Fault::Room, 0);
@@ -77,20 +57,20 @@ fn put_simple(buf: &mut [u8]) -> Outcome
 }
 
 fn put_sizes(buf: &mut [u8], min: u32, max: u32) -> Outcome
-    ensures { λ r. ⌜ Does (now (buf .entry)) (ifRoom (length (now (buf .entry))) (sizeData .write (sizes min max))) r (now (buf .exit)) ⌝ }
+    ensures { λ r. ⌜ Puts (now (buf .entry)) (ifRoom (length (now (buf .entry))) (sizeData .write (sizes min max))) r (now (buf .exit)) ⌝ }
 {
     if buf.len() < 16 {
         return Outcome::No(Fault::Room, 0);
     }
     put_one_zero(buf);
-    put_number(buf, 8, 4, min as u64);
-    put_number(buf, 12, 4, max as u64);
+    buffer::put_number(buf, 8, 4, min as u64);
+    buffer::put_number(buf, 12, 4, max as u64);
     Outcome::Done(16)
 }
 
 fn put_span(buf: &mut [u8], span: Span) -> Outcome
     requires { ⌜ (accepted (toBits binary64 (span .after)) ≡ true) × (accepted (toBits binary64 (span .before)) ≡ true) ⌝ }
-    ensures { λ r. ⌜ Does (now (buf .entry)) (ifRoom (length (now (buf .entry))) (dateData .write (spanData span))) r (now (buf .exit)) ⌝ }
+    ensures { λ r. ⌜ Puts (now (buf .entry)) (ifRoom (length (now (buf .entry))) (dateData .write (spanData span))) r (now (buf .exit)) ⌝ }
 {
     if buf.len() < 40 {
         return Outcome::No(Fault::Room, 0);
@@ -103,7 +83,7 @@ fn put_span(buf: &mut [u8], span: Span) -> Outcome
 
 // 43 before 20.
 fn put_dates(buf: &mut [u8], span: Span) -> Outcome
-    ensures { λ r. ⌜ Does (now (buf .entry)) (planData dateData (length (now (buf .entry))) (fromSpan span)) r (now (buf .exit)) ⌝ }
+    ensures { λ r. ⌜ Puts (now (buf .entry)) (planData dateData (length (now (buf .entry))) (fromSpan span)) r (now (buf .exit)) ⌝ }
 {
     if date::in_range(span.after) {
         if date::in_range(span.before) {
@@ -142,7 +122,7 @@ fn is_of(kind: Kind, identifier: u32, value: Value) -> bool
 
 // A value as the data of a kind: 40 first.
 fn put_as(kind: Kind, identifier: u32, value: Value, buf: &mut [u8]) -> Outcome
-    ensures { λ r. ⌜ Does (now (buf .entry)) (planKind kind identifier value (length (now (buf .entry)))) r (now (buf .exit)) ⌝ }
+    ensures { λ r. ⌜ Puts (now (buf .entry)) (planKind kind identifier value (length (now (buf .entry)))) r (now (buf .exit)) ⌝ }
 {
     if !is_of(kind, identifier, value) {
         return Outcome::Given(Fault::Field, 0);
@@ -158,7 +138,7 @@ fn put_as(kind: Kind, identifier: u32, value: Value, buf: &mut [u8]) -> Outcome
 
 // A value as the data of an identifier in an edition, written at the start of a buffer.
 pub fn put_value(edition: u64, identifier: u32, value: Value, buf: &mut [u8]) -> Outcome
-    ensures { λ r. ⌜ (r ≡ says (plan edition identifier value (length (now (buf .entry))))) × (now (buf .exit) ≡ leaves (now (buf .entry)) (plan edition identifier value (length (now (buf .entry))))) ⌝ }
+    ensures { λ r. ⌜ (r ≡ putSays (putting edition identifier value (length (now (buf .entry))))) × (now (buf .exit) ≡ putLeaves (now (buf .entry)) (putting edition identifier value (length (now (buf .entry))))) ⌝ }
 {
     let e = kind::edition_of(edition);
     let Edition::Of(product) = e else {

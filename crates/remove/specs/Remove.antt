@@ -28,7 +28,8 @@ use Rattle.locate.specs.declared.Spot.the-variants as Spot
 use Rattle.locate.specs.Steps.{Here, here, nameEnd, name-end, size-read, size-is}
 use Rattle.plan.specs.Edit.{remove, edited, become}
 use Rattle.plan.specs.Found.{Makes, Does, found, ground, Ground}
-use Rattle.plan.specs.Makes.{here-in, sound-small, sound-short, at-rule, no-rule, made-no, made-is}
+use Rattle.plan.specs.Last.{rules-none}
+use Rattle.plan.specs.Makes.{here-in, name-ends, sound-small, sound-short, at-rule, no-rule, made-no, made-is}
 use Rattle.parts.specs.Head.{head-long, head-short}
 
 -- ---- a rule that is not the first, or is the only one
@@ -149,10 +150,6 @@ size-first : (xs : List Element) → sizeOf 1 xs + 16 ≡ sizeOf 0 xs
 unfolding sizeOf
 size-first xs = omega (arith, head-long, head-short 1 (omega arith))
 
-no-rules : rules 0 [] ≡ []
-unfolding rules eachWrite
-no-rules = refl
-
 -- the deck that it leaves
 abbrev ledDeck : ℕ → Rule → List Rule → List ℕ
 ledDeck m r later = opening ++ (spelt 2 m ++ (front r ++ (spelt 4 (sizeOf 1 (r .elements) + 16) ++ (spelt 2 (length (r .elements)) ++ (headBytes 0 ++ (inner (r .elements) ++ rules (1 + 1) later))))))
@@ -163,7 +160,7 @@ unfolding before back
 led-written r later e =
     let i = written-is [] (r ∷ later) in
     let c = rules-cons 0 r later in
-    rw (size-first (r .elements), e) (i ∙ rw (no-rules, c, rules-later (0 + 1) (1 + 1) later (omega arith) (omega arith)) (simp append-assoc))
+    rw (size-first (r .elements), e) (i ∙ rw (rules-none, c, rules-later (0 + 1) (1 + 1) later (omega arith) (omega arith)) (simp append-assoc))
 
 -- how long that is
 led-sum : (n by h : ℕ) → by ≤ h → h + 2 ≤ n → n - (h + 2 - (h - by)) + 18 ≡ n - by + 16
@@ -218,14 +215,14 @@ next-bounds n d p rs g h w =
 
 module _ (edition n k m a b e : ℕ) (d : List ℕ) where
   pub found-next : {c : Spot} → Bytes d → c ≡ found (λ rs. k) edition n d → c ≡ Spot.Is m a b → k ≡ 0 → 1 < m → e ≡ nameEnd d b → Next n m b e d
-  found-next bs f g ek l z = go (ground (λ rs. k) edition n d (remove k) bs f g)
+  found-next bs f g ek l z = go (ground (λ rs. k) edition n d bs f g)
     where
-      go : Ground (λ rs. k) edition n d (remove k) m a b → Next n m b e d
+      go : Ground (λ rs. k) edition n d m a b → Next n m b e d
       go o =
           let h = here (o .product) (take n d) (o .rs) 1 (o .sound) (omega (arith, o .many)) in
           let i = next-bounds n d (o .product) (o .rs) (here (o .product) (take n d) (o .rs) 0 (o .sound) (omega (arith, o .many))) h (o .within) in
           let eb : b ≡ startOf (o .rs) 1 = rw ek at (o .ends) in
-          let j : e ≡ startOf (o .rs) 1 + 4 + length (string .write (h .r .name)) = rw eb at z ∙ name-end d (startOf (o .rs) 1) (o .product) 1 (h .r) (here-in n d h) in
+          let j : e ≡ startOf (o .rs) 1 + 4 + length (string .write (h .r .name)) = rw eb at z ∙ name-ends n d h in
           record { many = l; wide = omega (arith, i .0, eb); order = omega (arith, j, eb); inside = omega (arith, i .1, j); room = o .within; short = omega (arith, o .sound .short, length-take-le n d (o .within)) }
 
   -- Data Size can be read

@@ -5,7 +5,7 @@ use mathlib.Core.Path.{_≡_, refl, sym, _∙_}
 use mathlib.Core.Bool.{Bool, true, false}
 use mathlib.Core.List.{List, [], _∷_}
 use lib.ListN.{length, drop}
-use lib.Dec.{eqb}
+use lib.Dec.{eqb, lit<}
 use borrow.Author.Tests.{eq-eqb, ne-eqb}
 use Rattle.format.specs.declared.Fault.{Fault}
 use Rattle.format.specs.declared.Fault.the-variants as Fault
@@ -57,6 +57,28 @@ head i = pick (eqb i 0) firstHead separator
 -- "elements, with 8001 between two of one rule": the element at place j of its rule
 unfoldable pub placed : Product → ℕ → Format Element
 placed p j = pick (eqb j 0) (element p) (separator then element p)
+
+-- an element that fits, fits at every place of a rule
+pub placed-fits : (p : Product) (j : ℕ) (x : Element) → element p .Fit x → placed p j .Fit x
+unfolding placed pick _then_ seq via pair fixed judged number
+placed-fits p j x f = go (eqb j 0)
+  where
+    go : (b : Bool) → pick b (element p) (separator then element p) .Fit x
+    go true = f
+    go false = ((((lit< tt, refl), refl), f), refl)
+
+pub one-placed : (p : Product) (j : ℕ) (x : Element) → element p .Fit x → AllFit (placed p) j (x ∷ [])
+unfolding AllFit
+one-placed p j x f = (placed-fits p j x f, tt)
+
+-- and the other way
+pub fits-placed : (p : Product) (j : ℕ) (x : Element) → placed p j .Fit x → element p .Fit x
+unfolding placed pick
+fits-placed p j x f = go (eqb j 0) f
+  where
+    go : (b : Bool) → pick b (element p) (separator then element p) .Fit x → element p .Fit x
+    go true g = g
+    go false g = then-fit separator (element p) x g
 
 -- the number of elements, the head of rule i, the elements
 pub body-long : (p : Product) (i n : ℕ) (xs : List Element) → (head i then each (placed p) 0 n) .Fit xs → length xs ≡ n

@@ -21,27 +21,27 @@ use Rattle.deck.specs.Deck.{mark, header, deck}
 use Rattle.deck.specs.Written.{written, rules, rules-cons, before, written-is}
 
 -- each of a list
-unfoldable pub All : {A : Type 0} → (A → Type 0) → List A → Type 0
-All P [] = Unit {0}
-All P (x ∷ xs) = P x × All P xs
+unfoldable pub Every : {A : Type 0} → (A → Type 0) → List A → Type 0
+Every P [] = Unit {0}
+Every P (x ∷ xs) = P x × Every P xs
 
 module _ {A : Type 0} (P : A → Type 0) where
-  pub all-append : (xs ys : List A) → All P xs → All P ys → All P (xs ++ ys)
-  unfolding All
-  all-append [] ys f g = g
-  all-append (x ∷ xs) ys f g = (f .0, all-append xs ys (f .1) g)
+  pub every-append : (xs ys : List A) → Every P xs → Every P ys → Every P (xs ++ ys)
+  unfolding Every
+  every-append [] ys f g = g
+  every-append (x ∷ xs) ys f g = (f .0, every-append xs ys (f .1) g)
 
-  pub all-take : (k : ℕ) (xs : List A) → All P xs → All P (take k xs)
-  unfolding All
-  all-take zero xs f = tt
-  all-take (suc k) [] f = tt
-  all-take (suc k) (x ∷ xs) f = (f .0, all-take k xs (f .1))
+  pub every-take : (k : ℕ) (xs : List A) → Every P xs → Every P (take k xs)
+  unfolding Every
+  every-take zero xs f = tt
+  every-take (suc k) [] f = tt
+  every-take (suc k) (x ∷ xs) f = (f .0, every-take k xs (f .1))
 
-  pub all-drop : (k : ℕ) (xs : List A) → All P xs → All P (drop k xs)
-  unfolding All
-  all-drop zero xs f = f
-  all-drop (suc k) [] f = tt
-  all-drop (suc k) (x ∷ xs) f = all-drop k xs (f .1)
+  pub every-drop : (k : ℕ) (xs : List A) → Every P xs → Every P (drop k xs)
+  unfolding Every
+  every-drop zero xs f = f
+  every-drop (suc k) [] f = tt
+  every-drop (suc k) (x ∷ xs) f = every-drop k xs (f .1)
 
 -- ---- a rule
 pub record Fits (p : Product) (r : Rule) : Type 0 where
@@ -55,9 +55,9 @@ pub record Fits (p : Product) (r : Rule) : Type 0 where
   pub few : length (r .elements) ≤ 64
   pub elements : AllFit (placed p) 0 (r .elements)
 
-pub rule-fits : (p : Product) (i : ℕ) (r : Rule) → rule p i .Fit r → Fits p r
+pub fits-anywhere : (p : Product) (i : ℕ) (r : Rule) → rule p i .Fit r → Fits p r
 unfolding rule fields fromUnknown2 fromUnknown4 body sized counted count seq via judged pair measured _then_ each number
-rule-fits p i r f =
+fits-anywhere p i r f =
     let c = f .0 .1 .1 .1 .1 .1 .1 .1 .0 .0 .1 .0 .0 in
     let w = within-is 1 64 (length (r .elements)) (c .0 .1) in
     record {
@@ -89,9 +89,9 @@ pub within-fits : (low high n : ℕ) → low ≤ n → n ≤ high → within low
 unfolding within
 within-fits low high n h k = rw (le-leb low n h, le-leb n high k)
 
-pub fits-rule : (p : Product) (i : ℕ) (r : Rule) → Fits p r → sizeOf i (r .elements) < 256 ^ 4 → rule p i .Fit r
+pub fits-there : (p : Product) (i : ℕ) (r : Rule) → Fits p r → sizeOf i (r .elements) < 256 ^ 4 → rule p i .Fit r
 unfolding rule fields fromUnknown2 fromUnknown4 body sized counted count seq via judged pair measured _then_ each number
-fits-rule p i r f l =
+fits-there p i r f l =
     let n = length (r .elements) in
     let s : length (body p i .write (r .elements)) < 256 ^ 4 = rw (body-size p i (r .elements)) l in
     let c : (n < 256 ^ 2) × (within 1 64 n ≡ true) = (omega (arith, f .few), within-fits 1 64 n (f .some) (f .few)) in
@@ -105,28 +105,28 @@ unfolding header _then_ seq via pair fixed bytes mark value judged number count
 header-fits n h = ((((lit< tt, refl), refl), ((((lit< tt, refl), refl), (omega arith, within-fits 0 256 n (omega arith) h)), refl)), refl)
 
 -- wherever they stand, the rules of a deck that is not too long have a Data Size of four bytes
-all-fit : (p : Product) (i : ℕ) (rs : List Rule) → All (Fits p) rs → length (rules i rs) < 256 ^ 4 → AllFit (rule p) i rs
-unfolding All AllFit
+all-fit : (p : Product) (i : ℕ) (rs : List Rule) → Every (Fits p) rs → length (rules i rs) < 256 ^ 4 → AllFit (rule p) i rs
+unfolding Every AllFit
 all-fit p i [] f l = tt
 all-fit p i (r ∷ rs) f l =
     let B = back i (r .elements) in
     let a = length-append (front r) (B ++ rules (i + 1) rs) in
     let b = length-append B (rules (i + 1) rs) in
     let e = ap length (rules-cons i r rs) in
-    (fits-rule p i r (f .0) (omega (arith, l, e, a, b, back-long i (r .elements))), all-fit p (i + 1) rs (f .1) (omega (arith, l, e, a, b)))
+    (fits-there p i r (f .0) (omega (arith, l, e, a, b, back-long i (r .elements))), all-fit p (i + 1) rs (f .1) (omega (arith, l, e, a, b)))
 
-fits-all : (p : Product) (i : ℕ) (rs : List Rule) → AllFit (rule p) i rs → All (Fits p) rs
-unfolding All AllFit
+fits-all : (p : Product) (i : ℕ) (rs : List Rule) → AllFit (rule p) i rs → Every (Fits p) rs
+unfolding Every AllFit
 fits-all p i [] f = tt
-fits-all p i (r ∷ rs) f = (rule-fits p i r (f .0), fits-all p (i + 1) rs (f .1))
+fits-all p i (r ∷ rs) f = (fits-anywhere p i r (f .0), fits-all p (i + 1) rs (f .1))
 
-pub deck-fits : (p : Product) (rs : List Rule) → All (Fits p) rs → length rs ≤ 256 → length (written rs) ≤ 60000 → deck p .Fit rs
+pub deck-fits : (p : Product) (rs : List Rule) → Every (Fits p) rs → length rs ≤ 256 → length (written rs) ≤ 60000 → deck p .Fit rs
 unfolding deck counted via pair each
 deck-fits p rs f h l =
     let w = written-is [] rs in
     let n : length (rules 0 rs) < 256 ^ 4 = omega (arith, l, ap length w, length-append (before (length rs) []) (rules 0 rs)) in
     ((header-fits (length rs) h, (refl, all-fit p 0 rs f n)), refl)
 
-pub fits-deck : (p : Product) (rs : List Rule) → deck p .Fit rs → All (Fits p) rs
+pub fits-deck : (p : Product) (rs : List Rule) → deck p .Fit rs → Every (Fits p) rs
 unfolding deck counted via pair each
 fits-deck p rs f = fits-all p 0 rs (f .0 .1 .1)

@@ -8,10 +8,10 @@ use lib.Dec.{lit<, eqb}
 use lib.ListN.{length, length-append}
 use Rattle.format.specs.declared.Fault.{Fault}
 use Rattle.format.specs.declared.Fault.the-variants as Fault
-use Rattle.format.specs.Format.{Answer, got, refused, Format, Bytes, pick, whole, apart, mapped-got}
-use Rattle.format.specs.Join.{pair, judged, via, atStart, nothing, seq, _then_, then-fit}
+use Rattle.format.specs.Format.{Answer, got, refused, Bytes, pick, whole, apart, mapped-got}
+use Rattle.format.specs.Join.{pair, judged, via, atStart, nothing, seq, _then_}
 use Rattle.format.specs.Number.{number, fixed, count}
-use Rattle.format.specs.Each.{each, AllFit, counted, listed}
+use Rattle.format.specs.Each.{each, AllFit, all-append, counted, listed}
 use Rattle.text.specs.Text.{extended, stringLength, string, word}
 use Rattle.kind.specs.declared.Product.{Product}
 use Rattle.kind.specs.declared.Kind.{Kind}
@@ -21,7 +21,6 @@ use Rattle.kind.specs.declared.Row.the-variants as Row
 use Rattle.kind.specs.Kinds.{kinds, rowIn, rowOf, offered-is}
 use Rattle.element.specs.Data.{words, dataOf, markerData, simpleData, wordData, sizeData, dateData}
 use Rattle.element.specs.Element.{Element, element, identifier, isRow, dataBy}
-use Rattle.rule.specs.Rule.{placed, separator}
 use Rattle.plan.specs.Given.{isText, units, given, givenBy, withData}
 use Rattle.parts.specs.Text.{text-units}
 use Rattle.runs.specs.Fits.{within-fits}
@@ -75,35 +74,12 @@ given-fits p id s x n l b e = go (rowOf p id) refl e
         let w : rowIn kinds id ≡ Row.Is k = offered-is p (rowIn kinds id) h in
         rw (m .1 .1) (((l, ap isRow w), ap isRow h), rw w f)
 
--- an element that fits, fits at every place of a rule
-pub placed-fits : (p : Product) (j : ℕ) (x : Element) → element p .Fit x → placed p j .Fit x
-unfolding placed pick _then_ seq via pair fixed judged number
-placed-fits p j x f = go (eqb j 0)
-  where
-    go : (b : Bool) → pick b (element p) (separator then element p) .Fit x
-    go true = f
-    go false = ((((lit< tt, refl), refl), f), refl)
-
--- and the other way
-pub fits-placed : (p : Product) (j : ℕ) (x : Element) → placed p j .Fit x → element p .Fit x
-unfolding placed pick
-fits-placed p j x f = go (eqb j 0) f
-  where
-    go : (b : Bool) → pick b (element p) (separator then element p) .Fit x → element p .Fit x
-    go true g = g
-    go false g = then-fit separator (element p) x g
-
 -- ---- a word more in a list
-all-one : {A : Type 0} (a : ℕ → Format A) (i : ℕ) (xs : List A) (x : A) → AllFit a i xs → ((j : ℕ) → a j .Fit x) → AllFit a i (xs ++ (x ∷ []))
-unfolding AllFit
-all-one a i [] x f g = (g i, tt)
-all-one a i (y ∷ xs) x f g = (f .0, all-one a (i + 1) xs x (f .1) g)
-
 more-words : (ws : List (List ℕ)) (us : List ℕ) → wordData .Fit (words ws) → length ws < 64 → word .Fit us → wordData .Fit (words (ws ++ (us ∷ [])))
-unfolding wordData listed counted via pair each count judged number
+unfolding wordData listed counted via pair each AllFit count judged number
 more-words ws us f l g =
     let n : length (ws ++ (us ∷ [])) ≡ length ws + 1 = length-append ws (us ∷ []) in
-    ((((omega (arith, n), within-fits 0 64 (length (ws ++ (us ∷ []))) (omega arith) (omega (arith, n))), (refl, all-one (λ i. word) 0 ws us (f .0 .0 .1 .1) (λ j. g))), refl), refl)
+    ((((omega (arith, n), within-fits 0 64 (length (ws ++ (us ∷ []))) (omega arith) (omega (arith, n))), (refl, all-append (λ i. word) 0 ws (us ∷ []) (f .0 .0 .1 .1) (g, tt))), refl), refl)
 
 -- of the kinds only a word list has words
 word-list : (k : Kind) (ws : List (List ℕ)) → dataOf k .Fit (words ws) → k ≡ Kind.WordList

@@ -1,6 +1,5 @@
 -- An edit of rules that fit makes rules that fit.
-use Prim.Native.Nat.{ℕ, zero, suc, _+_, _-_, _≤_, _<_, _^_}
-use native.Mathlib.Nat.{add-zero}
+use Prim.Native.Nat.{ℕ, _+_, _-_, _≤_, _<_, _^_}
 use native.Mathlib.Omega.{arith}
 use mathlib.Core.Path.{_≡_, refl, ap}
 use mathlib.Core.Bool.{Bool, true, false}
@@ -10,19 +9,19 @@ use lib.ListN.{length, take, drop, length-append, take-append-drop}
 use borrow.Author.Tests.{leb-true, ltb-true}
 use Rattle.format.specs.declared.Fault.{Fault}
 use Rattle.format.specs.Format.{Answer, got, refused, Format, Bytes, pick}
-use Rattle.format.specs.Each.{AllFit}
+use Rattle.format.specs.Each.{AllFit, all-append, all-take, all-drop}
 use Rattle.text.specs.Text.{string, word}
 use Rattle.kind.specs.declared.Product.{Product}
 use Rattle.element.specs.Data.{plain, words, sizes, span}
 use Rattle.element.specs.Element.{Element, element}
 use Rattle.rule.specs.declared.Fields.{Fields}
-use Rattle.rule.specs.Rule.{Rule, placed}
+use Rattle.rule.specs.Rule.{Rule, placed, one-placed, fits-placed}
 use Rattle.deck.specs.Deck.{read-writes-back}
 use Rattle.deck.specs.Written.{written}
 use Rattle.plan.specs.Given.{isText, units}
 use Rattle.plan.specs.Edit.{Edit, switch, rename, remove, insert, addRule, addElement, addWord, Plan, become, refuse, refuseGiven, atRule, atCopy, atSecond, atLast, atList, unlessFull, ifText, atGiven, edited, room, inRoom, switched, renamed, holding, newRule}
-use Rattle.runs.specs.Fits.{All, all-append, all-take, all-drop, Fits, fits-deck}
-use Rattle.runs.specs.Given.{text-fits, word-fits, given-fits, placed-fits, fits-placed, word-more}
+use Rattle.runs.specs.Fits.{Every, every-append, every-take, every-drop, Fits, fits-deck}
+use Rattle.runs.specs.Given.{text-fits, word-fits, given-fits, word-more}
 
 -- what callers can hand over: bytes, and numbers of 32 bits
 abbrev pub Small : Fields → Type 0
@@ -103,28 +102,10 @@ in-room cap (become xs) {rs} e =
 in-room cap (refuse c q) e = no-list e
 in-room cap (refuseGiven c q) e = not-given e
 
--- ---- elements one behind the other
-all-more : {A : Type 0} (a : ℕ → Format A) (i : ℕ) (xs ys : List A) → AllFit a i xs → AllFit a (i + length xs) ys → AllFit a i (xs ++ ys)
+-- ---- an element of a rule
+all-rest : {A : Type 0} (a : ℕ → Format A) (i k : ℕ) (xs ys : List A) (x : A) → AllFit a i xs → drop k xs ≡ x ∷ ys → a (i + k) .Fit x
 unfolding AllFit
-all-more a i [] ys f g = rw add-zero at g
-all-more a i (x ∷ xs) ys f g = let e : i + suc (length xs) ≡ i + 1 + length xs = omega arith in (f .0, all-more a (i + 1) xs ys (f .1) (rw e at g))
-
-all-front : {A : Type 0} (a : ℕ → Format A) (i k : ℕ) (xs : List A) → AllFit a i xs → AllFit a i (take k xs)
-unfolding AllFit
-all-front a i zero xs f = tt
-all-front a i (suc k) [] f = tt
-all-front a i (suc k) (x ∷ xs) f = (f .0, all-front a (i + 1) k xs (f .1))
-
-all-rest : {A : Type 0} (a : ℕ → Format A) (i k : ℕ) (xs ys : List A) (x : A) → AllFit a i xs → drop k xs ≡ x ∷ ys → (j : ℕ) × (a j .Fit x)
-unfolding AllFit
-all-rest a i zero [] ys x f e = absurd (let z : _≡_ {A = ℕ} 0 1 = cc in omega arith)
-all-rest a i zero (y ∷ xs) ys x f e = let h : y ≡ x = cc in (i, rw h at (f .0))
-all-rest a i (suc k) [] ys x f e = absurd (let z : _≡_ {A = ℕ} 0 1 = cc in omega arith)
-all-rest a i (suc k) (y ∷ xs) ys x f e = all-rest a (i + 1) k xs ys x (f .1) e
-
-one-placed : (p : Product) (j : ℕ) (x : Element) → element p .Fit x → AllFit (placed p) j (x ∷ [])
-unfolding AllFit
-one-placed p j x f = (placed-fits p j x f, tt)
+all-rest a i k xs ys x f e = let w : AllFit a (i + k) (x ∷ ys) = rw e at (all-drop a i k xs f) in w .0
 
 -- ---- rules with one thing changed
 module _ (p : Product) (r : Rule) (f : Fits p r) where
@@ -141,19 +122,19 @@ module _ (p : Product) (r : Rule) (f : Fits p r) where
   more-fits : (x : Element) → length (r .elements) < 64 → element p .Fit x → Fits p (holding (r .elements ++ (x ∷ [])) r)
   more-fits x l g =
       let n : length (r .elements ++ (x ∷ [])) ≡ length (r .elements) + 1 = length-append (r .elements) (x ∷ []) in
-      holding-fits (r .elements ++ (x ∷ [])) (all-more (placed p) 0 (r .elements) (x ∷ []) (f .elements) (one-placed p _ x g)) (omega (arith, n)) (omega (arith, n))
+      holding-fits (r .elements ++ (x ∷ [])) (all-append (placed p) 0 (r .elements) (x ∷ []) (f .elements) (one-placed p _ x g)) (omega (arith, n)) (omega (arith, n))
 
   wordy-fits : (k id : ℕ) (ws : List (List ℕ)) (later : List Element) (us : List ℕ) → drop k (r .elements) ≡ (id, words ws) ∷ later → length ws < 64 → word .Fit us
       → Fits p (holding (take k (r .elements) ++ ((id, words (ws ++ (us ∷ []))) ∷ [])) r)
   wordy-fits k id ws later us e l g =
       let x : Element = (id, words (ws ++ (us ∷ []))) in
       let o = all-rest (placed p) 0 k (r .elements) later (id, words ws) (f .elements) e in
-      let w : element p .Fit x = word-more p id ws us (fits-placed p (o .0) (id, words ws) (o .1)) l g in
+      let w : element p .Fit x = word-more p id ws us (fits-placed p (0 + k) (id, words ws) o) l g in
       let n : length (take k (r .elements) ++ (x ∷ [])) ≡ length (take k (r .elements)) + 1 = length-append (take k (r .elements)) (x ∷ []) in
       let m = length-append (take k (r .elements)) (drop k (r .elements)) in
       let t = ap length (take-append-drop k (r .elements)) in
       let v = ap length e in
-      holding-fits (take k (r .elements) ++ (x ∷ [])) (all-more (placed p) 0 (take k (r .elements)) (x ∷ []) (all-front (placed p) 0 k (r .elements) (f .elements)) (one-placed p _ x w)) (omega (arith, n)) (omega (arith, n, m, t, v, f .few))
+      holding-fits (take k (r .elements) ++ (x ∷ [])) (all-append (placed p) 0 (take k (r .elements)) (x ∷ []) (all-take (placed p) 0 k (r .elements) (f .elements)) (one-placed p _ x w)) (omega (arith, n)) (omega (arith, n, m, t, v, f .few))
 
 new-fits : (p : Product) (us : List ℕ) (f : Fields) (x : Element) → Small f → string .Fit us → element p .Fit x → Fits p (newRule us f x)
 new-fits p us f x s g w = record { signature = s .0; name = g; unknown2 = s .1 .0; unknown3 = s .1 .1 .0; unknown4 = s .1 .1 .1 .0; unknown5 = s .1 .1 .1 .1; some = omega arith; few = omega arith; elements = one-placed p 0 x w }
@@ -162,18 +143,18 @@ new-fits p us f x s g w = record { signature = s .0; name = g; unknown2 = s .1 .
 became : {xs ys : List Rule} → become xs ≡ become ys → xs ≡ ys
 became e = cc
 
-module _ (p : Product) (rs : List Rule) (f : All (Fits p) rs) where
+module _ (p : Product) (rs : List Rule) (f : Every (Fits p) rs) where
   -- rule k and those behind it
-  from-k : (k : ℕ) (r : Rule) (later : List Rule) → drop k rs ≡ r ∷ later → Fits p r × All (Fits p) later
-  unfolding All
-  from-k k r later e = rw e at (all-drop (Fits p) k rs f)
+  from-k : (k : ℕ) (r : Rule) (later : List Rule) → drop k rs ≡ r ∷ later → Fits p r × Every (Fits p) later
+  unfolding Every
+  from-k k r later e = rw e at (every-drop (Fits p) k rs f)
 
   -- rule k becomes others
-  put-k : (k : ℕ) (ys : List Rule) → All (Fits p) ys → All (Fits p) (take k rs ++ ys)
-  put-k k ys g = all-append (Fits p) (take k rs) ys (all-take (Fits p) k rs f) g
+  put-k : (k : ℕ) (ys : List Rule) → Every (Fits p) ys → Every (Fits p) (take k rs ++ ys)
+  put-k k ys g = every-append (Fits p) (take k rs) ys (every-take (Fits p) k rs f) g
 
-  pub edited-fits : (e : Edit) (xs : List Rule) → Handed e → edited p e rs ≡ become xs → All (Fits p) xs
-  unfolding edited Handed All
+  pub edited-fits : (e : Edit) (xs : List Rule) → Handed e → edited p e rs ≡ become xs → Every (Fits p) xs
+  unfolding edited Handed Every
   edited-fits (switch k on) xs h q =
       let o = of-rule _ _ q in
       let w = from-k k (o .0) (o .1 .0) (o .1 .1 .0) in
@@ -191,14 +172,14 @@ module _ (p : Product) (rs : List Rule) (f : All (Fits p) rs) where
       let s = of-second _ _ q in
       let b = picked (leb k (length rs)) _ _ _ (s .1 .1 .1) in
       let o = of-copy _ _ (b .1) in
-      let g = all-drop (Fits p) j (s .0) (fits-deck p (s .0) (read-writes-back p second (s .0) (s .1 .0) h (s .1 .1 .0) .fit)) in
-      let w : Fits p (o .0) × All (Fits p) (o .1 .0) = rw (o .1 .1 .0) at g in
-      rw (← became (o .1 .1 .1)) (put-k k _ (w .0, all-drop (Fits p) k rs f))
+      let g = every-drop (Fits p) j (s .0) (fits-deck p (s .0) (read-writes-back p second (s .0) (s .1 .0) h (s .1 .1 .0) .fit)) in
+      let w : Fits p (o .0) × Every (Fits p) (o .1 .0) = rw (o .1 .1 .0) at g in
+      rw (← became (o .1 .1 .1)) (put-k k _ (w .0, every-drop (Fits p) k rs f))
   edited-fits (addRule name g id s) xs h q =
       let t = of-text name _ q in
       let o = of-given _ _ (t .1) in
       let w = given-fits p id s (o .0) (o .1 .0) (h .1 .1 .0) (h .1 .1 .1) (o .1 .1 .0) in
-      rw (← became (o .1 .1 .1)) (all-append (Fits p) rs _ f (new-fits p (units name) g (o .0) (h .1 .0) (text-fits name (h .0) (t .0)) w, tt))
+      rw (← became (o .1 .1 .1)) (every-append (Fits p) rs _ f (new-fits p (units name) g (o .0) (h .1 .0) (text-fits name (h .0) (t .0)) w, tt))
   edited-fits (addElement id s) xs h q =
       let l = of-last _ _ q in
       let w = from-k (length rs - 1) (l .0) (l .1 .0) (l .1 .1 .0) in

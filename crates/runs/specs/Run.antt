@@ -17,7 +17,7 @@ use Rattle.deck.specs.Written.{written, written-as}
 use Rattle.buffer.specs.Laid.{laid, laid-start, take-laid, length-laid, laid-again, drop-laid}
 use Rattle.plan.specs.Edit.{Edit, Plan, become, refuse, refuseGiven, edited, inRoom, planned, leaves}
 use Rattle.start.specs.Start.{startLeaves, start-laid, empty-long}
-use Rattle.runs.specs.Fits.{deck-fits, fits-deck, All}
+use Rattle.runs.specs.Fits.{deck-fits, fits-deck, Every}
 use Rattle.runs.specs.Kept.{Handed, edited-fits, in-room}
 
 -- a buffer, and the length of the deck in it
@@ -55,8 +55,8 @@ runRules p cap [] l = l
 runRules p cap (e ∷ es) l = runRules p cap es (stepRules p cap e l)
 
 -- the buffer d with a list of rules laid in it: the deck written afresh, zeros up to the longest length so far, the rest as found
-abbrev pub holding : List ℕ → Rules → Buffer
-holding d l = (laid (written (l .0)) (l .1) d, length (written (l .0)))
+abbrev pub bufferWith : List ℕ → Rules → Buffer
+bufferWith d l = (laid (written (l .0)) (l .1) d, length (written (l .0)))
 
 -- what stays true of a list through a run
 pub record Good (p : Product) (cap : ℕ) (l : Rules) : Type 0 where
@@ -64,11 +64,6 @@ pub record Good (p : Product) (cap : ℕ) (l : Rules) : Type 0 where
   pub short : length (written (l .0)) ≤ 60000
   pub below : length (written (l .0)) ≤ l .1
   pub room : l .1 ≤ cap
-
--- each edit of a run is one that a caller can ask for
-unfoldable pub AllHanded : List Edit → Type 0
-AllHanded [] = Unit {0}
-AllHanded (e ∷ es) = Handed e × AllHanded es
 
 module _ (edition : ℕ) (p : Product) (ed : editionOf edition ≡ Edition.Of p) (d : List ℕ) where
   -- the deck is read as its list
@@ -97,39 +92,39 @@ module _ (edition : ℕ) (p : Product) (ed : editionOf edition ≡ Edition.Of p)
       go (refuse c q) z = g
       go (refuseGiven c q) z = g
 
-  step-is : (e : Edit) (l : Rules) → Good p (length d) l → step edition e (holding d l) ≡ holding d (stepRules p (length d) e l)
+  step-is : (e : Edit) (l : Rules) → Good p (length d) l → step edition e (bufferWith d l) ≡ bufferWith d (stepRules p (length d) e l)
   unfolding step stepRules leaves
   step-is e l g = rw (plan-is e l g) (go (inRoom (length d) (edited p e (l .0))))
     where
-      go : (q : Plan) → (leaves (length (written (l .0))) (laid (written (l .0)) (l .1) d) q, lengthAfter (length (written (l .0))) q) ≡ holding d (taken q l)
+      go : (q : Plan) → (leaves (length (written (l .0))) (laid (written (l .0)) (l .1) d) q, lengthAfter (length (written (l .0))) q) ≡ bufferWith d (taken q l)
       go (become rs) = ap (λ (z : List ℕ). (z, length (written rs))) (laid-again (written rs) (written (l .0)) (l .1) d (g .below))
       go (refuse c q) = refl
       go (refuseGiven c q) = refl
 
   -- DEMAND 3
-  pub runs : (es : List Edit) (l : Rules) → AllHanded es → Good p (length d) l → run edition es (holding d l) ≡ holding d (runRules p (length d) es l)
-  unfolding run runRules AllHanded
+  pub runs : (es : List Edit) (l : Rules) → Every Handed es → Good p (length d) l → run edition es (bufferWith d l) ≡ bufferWith d (runRules p (length d) es l)
+  unfolding run runRules Every
   runs [] l h g = refl
   runs (e ∷ es) l h g = rw (step-is e l g) (runs es (stepRules p (length d) e l) (h .1) (good-step e l (h .0) g))
 
   -- from an accepted deck in the first n bytes
-  pub from-accepted : (n m : ℕ) (rs : List Rule) (es : List Edit) → Bytes d → n ≤ length d → readAs p (take n d) ≡ got rs m → AllHanded es → run edition es (d, n) ≡ holding d (runRules p (length d) es (rs, n))
+  pub from-accepted : (n m : ℕ) (rs : List Rule) (es : List Edit) → Bytes d → n ≤ length d → readAs p (take n d) ≡ got rs m → Every Handed es → run edition es (d, n) ≡ bufferWith d (runRules p (length d) es (rs, n))
   from-accepted n m rs es bs l r h =
       let w = read-writes-back p (take n d) rs m (bytes-take n d bs) r in
       let t : take n d ≡ written rs = w .is ∙ written-as p rs in
       let k : length (written rs) ≡ n = sym (ap length t) ∙ length-take-le n d l in
       let g : Good p (length d) (rs, n) = record { fit = w .fit; short = omega (arith, w .short, ap length t); below = omega arith; room = l } in
-      let s : (d, n) ≡ holding d (rs, n) = ap₂ (λ (a : List ℕ) (b : ℕ). (a, b)) (laid-start d n l ∙ ap (λ (x : List ℕ). laid x n d) t) (sym k) in
+      let s : (d, n) ≡ bufferWith d (rs, n) = ap₂ (λ (a : List ℕ) (b : ℕ). (a, b)) (laid-start d n l ∙ ap (λ (x : List ℕ). laid x n d) t) (sym k) in
       ap (run edition es) s ∙ runs es (rs, n) h g
 
   -- "Bytes past the longest deck length so far are never touched"
-  pub untouched : (l : Rules) → Good p (length d) l → drop (l .1) (holding d l .0) ≡ drop (l .1) d
+  pub untouched : (l : Rules) → Good p (length d) l → drop (l .1) (bufferWith d l .0) ≡ drop (l .1) d
   untouched l g = drop-laid (written (l .0)) (l .1) d (g .below)
 
   -- "It begins a run of edits and is no member of one"
-  pub from-start : (es : List Edit) → 7 ≤ length d → AllHanded es → run edition es (startLeaves d, 7) ≡ holding d (runRules p (length d) es ([], 7))
-  unfolding All
+  pub from-start : (es : List Edit) → 7 ≤ length d → Every Handed es → run edition es (startLeaves d, 7) ≡ bufferWith d (runRules p (length d) es ([], 7))
+  unfolding Every
   from-start es l h =
       let g : Good p (length d) ([], 7) = record { fit = deck-fits p [] tt (omega arith) (omega (arith, empty-long)); short = omega (arith, empty-long); below = omega (arith, empty-long); room = l } in
-      let s : (startLeaves d, 7) ≡ holding d ([], 7) = ap₂ (λ (a : List ℕ) (b : ℕ). (a, b)) (start-laid d l) (sym empty-long) in
+      let s : (startLeaves d, 7) ≡ bufferWith d ([], 7) = ap₂ (λ (a : List ℕ) (b : ℕ). (a, b)) (start-laid d l) (sym empty-long) in
       ap (run edition es) s ∙ runs es ([], 7) h g

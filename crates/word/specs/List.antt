@@ -14,7 +14,7 @@ use Rattle.format.specs.declared.Fault.the-variants as Fault
 use Rattle.format.specs.declared.Read.{Read}
 use Rattle.format.specs.declared.Read.the-variants.{Got, No}
 use Rattle.format.specs.Format.{pick}
-use Rattle.format.specs.Join.{pair, pairWrite, judged, via, seq, _then_, then-fit}
+use Rattle.format.specs.Join.{pair, pairWrite, judged, via, seq, _then_}
 use Rattle.format.specs.Number.{number, spelt, length-spelt, fixed, count}
 use Rattle.format.specs.Each.{each, eachWrite, each-append, counted, listed}
 use Rattle.format.specs.Seen.{seen, itself, none, unlike}
@@ -29,7 +29,7 @@ use Rattle.kind.specs.declared.Row.the-variants as Row
 use Rattle.kind.specs.Kinds.{kinds, rowIn, rowOf, offered-is}
 use Rattle.element.specs.Data.{Data, words, wordsOf, dataOf, markerData, simpleData, wordData, sizeData, dateData}
 use Rattle.element.specs.Element.{Element, element, identifier, named, isRow, dataBy}
-use Rattle.rule.specs.Rule.{Rule, placed, head, rule-fits, body-fits}
+use Rattle.rule.specs.Rule.{Rule, placed, fits-placed, head, rule-fits, body-fits}
 use Rattle.rule.specs.Parts.{front, back, headBytes, inner, inner-as, sizeOf}
 use Rattle.deck.specs.Written.{before, startOf}
 use Rattle.locate.specs.Steps.{Here}
@@ -88,14 +88,6 @@ placed-is p j x = go (eqb j 0)
     go true = refl
     go false = refl
 
-placed-fits : (p : Product) (j : ℕ) (x : Element) → placed p j .Fit x → element p .Fit x
-unfolding placed pick
-placed-fits p j x = go (eqb j 0)
-  where
-    go : (b : Bool) → pick b (element p) (fixed 2 0x8001 Fault.Field then element p) .Fit x → element p .Fit x
-    go true f = f
-    go false f = then-fit (fixed 2 0x8001 Fault.Field) (element p) x f
-
 -- of a word list: identifier, the number of words, the words
 pub list-written : (p : Product) (id : ℕ) (ws : List (List ℕ)) → rowIn kinds id ≡ Row.Is Kind.WordList → element p .write (id, words ws) ≡ spelt 4 id ++ (spelt 4 (length ws) ++ eachWrite (λ i. word) 0 ws)
 unfolding element identifier judged pair pairWrite number wordData listed counted via each count
@@ -131,7 +123,7 @@ module _ (p : Product) (j t : ℕ) (d : List ℕ) {y : Read} where
     unfolding element identifier judged pair rowOf
     has-row x u o e h f =
         let g = back-got named (placed p j) d t o e h in
-        let w = placed-fits p j x (o .fit) in
+        let w = fits-placed p j x (o .fit) in
         go (rowOf p (x .0)) refl (rw (g .0) at f) (w .0 .1) (w .1)
       where
         go : (r : Row) → rowOf p (x .0) ≡ r → b ≡ listRow (rowOf p (x .0)) → isRow (rowOf p (x .0)) ≡ true → dataBy (rowIn kinds (x .0)) .Fit (x .1) → (k : Kind) × ((rowIn kinds (x .0) ≡ Row.Is k) × ((b ≡ listRow (Row.Is k)) × dataOf k .Fit (x .1)))

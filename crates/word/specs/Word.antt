@@ -4,8 +4,8 @@ use native.Mathlib.Omega.{arith}
 use mathlib.Core.Path.{_≡_, refl, sym, ap, _∙_}
 use mathlib.Core.Bool.{true, false}
 use mathlib.Core.List.{List, [], _∷_, _++_, append-assoc, append-nil}
-use lib.ListN.{length, take, drop, length-append, length-drop, take-append-drop}
-use lib.Seq.{length-take-le, take-add}
+use lib.ListN.{length, take, drop, length-append, take-append-drop}
+use lib.Seq.{length-take-le}
 use Rattle.format.specs.declared.Fault.{Fault}
 use Rattle.format.specs.declared.Fault.the-variants as Fault
 use Rattle.format.specs.declared.Outcome.{Outcome}
@@ -28,16 +28,16 @@ use Rattle.rule.specs.Rule.{Rule, rule-fits}
 use Rattle.rule.specs.Parts.{kept, front, back, headBytes, inner, sizeOf}
 use Rattle.deck.specs.Written.{written, before, startOf}
 use Rattle.buffer.specs.Laid.{putIn, put-both}
-use Rattle.buffer.specs.Holds.{Holds, holds-start, holds-put}
+use Rattle.buffer.specs.Holds.{Holds, holds-put, holds-behind}
 use Rattle.locate.specs.Located.{lastOf}
-use Rattle.locate.specs.Steps.{Here, here, nameEnd, name-end}
+use Rattle.locate.specs.Steps.{Here, nameEnd}
 use Rattle.plan.specs.Given.{isText, units}
 use Rattle.plan.specs.Edit.{Plan, become, addWord, edited, holding, atList, unlessFull, ifText}
 use Rattle.plan.specs.Found.{MakesAs, Does}
-use Rattle.plan.specs.Makes.{here-in, sound-small, replaced-long, written-here, made-no, made-large, made-room, made-is}
+use Rattle.plan.specs.Last.{rules-none, among, as-many, on-none, on-last}
+use Rattle.plan.specs.Makes.{written-here, if-text, no-text, full, not-full, made-no, made-large, made-room, made-is}
 use Rattle.parts.specs.Text.{textBytes, textSize, text-size, text-is}
-use Rattle.add.specs.Element.{rules-none, last-rule, last-is, front-ends, size-ends, inner-more, at-last, no-last, full, not-full}
-use Rattle.add.specs.Rule.{no-text, if-text}
+use Rattle.add.specs.Element.{last-is, front-ends, size-ends, inner-more}
 use Rattle.word.specs.List.{sepOf, placed-is, list-written, WordsAt, Lists, lastPlace}
 
 -- 4 zero bytes and a String
@@ -133,7 +133,7 @@ module _ (n e t c : ℕ) (s d : List ℕ) where
     unfolding front kept
     longer-written b =
         let f′ : drop k rs ≡ h .r ∷ [] = h .from ∙ rw z in
-        written-here rs [] k (h .r) (holding (longer k (h .r .elements) e o f l s) (h .r)) f′ (omega (arith, length-drop k rs, ap length (h .from)))
+        written-here rs [] k (h .r) (holding (longer k (h .r .elements) e o f l s) (h .r)) f′ (among h)
         ∙ rw (rules-none, append-nil, back-longer k (h .r .elements) e o f l n s b (size-ends n d h z w g))
 
     bytes-long : (S C : ℕ) → length (bytesWith S C) ≡ n + 4 + length (textBytes s)
@@ -153,22 +153,16 @@ module _ (n e t c : ℕ) (s d : List ℕ) where
         let E = wordBytes s in
         let lE = word-long s in
         let e₂′ : y₂ ≡ putIn d n E = word-put d n s e₁ e₂ m in
-        let G = take (length E) (drop n d) in
         let U = upTo k els e o f l in
         let W = eachWrite (λ i. word) 0 (o .ws) in
         let M = spelt 2 (length els) ++ (headBytes k ++ U) in
-        let a : take (n + length E) d ≡ take n d ++ (G ++ []) = take-add n (length E) d ∙ rw append-nil in
-        let h₁ = holds-put (take n d) G [] E (holds-start d (n + length E) (omega arith)) a (length-take-le n d w) (length-take-le (length E) (drop n d) (omega (arith, length-drop n d))) e₂′ in
-        let i : take n d ++ (E ++ []) ≡ P ++ (spelt 4 (sizeOf k els) ++ (M ++ (spelt 4 c ++ (W ++ E)))) = rw (last-is n d h z w, append-nil, inner-is k els e o f l) (simp append-assoc) in
-        let h₂ = holds-put P (spelt 4 (sizeOf k els)) (M ++ (spelt 4 c ++ (W ++ E))) (spelt 4 S) h₁ i (front-ends n d h z w g) (length-spelt 4 (sizeOf k els) ∙ sym (length-spelt 4 S)) e₃ in
+        let i : take n d ++ E ≡ P ++ (spelt 4 (sizeOf k els) ++ (M ++ (spelt 4 c ++ (W ++ E)))) = rw (last-is n d h z w, inner-is k els e o f l) (simp append-assoc) in
+        let h₂ = holds-put P (spelt 4 (sizeOf k els)) (M ++ (spelt 4 c ++ (W ++ E))) (spelt 4 S) (holds-behind d n E (omega arith) e₂′) i (front-ends n d h z w g) (length-spelt 4 (sizeOf k els) ∙ sym (length-spelt 4 S)) e₃ in
         let j : P ++ (spelt 4 S ++ (M ++ (spelt 4 c ++ (W ++ E)))) ≡ (P ++ (spelt 4 S ++ M)) ++ (spelt 4 c ++ (W ++ E)) = simp append-assoc in
         let v : length (P ++ (spelt 4 S ++ M)) ≡ t = omega (arith, length-append P (spelt 4 S ++ M), length-append (spelt 4 S) M, length-append (spelt 2 (length els)) (headBytes k ++ U), length-append (headBytes k) U, length-spelt 4 S, length-spelt 2 (length els), front-ends n d h z w g, up-long k els e o f l) in
         let h₃ = holds-put (P ++ (spelt 4 S ++ M)) (spelt 4 c) (W ++ E) (spelt 4 C) h₂ j v (length-spelt 4 c ∙ sym (length-spelt 4 C)) e₄ in
         let q : (P ++ (spelt 4 S ++ M)) ++ (spelt 4 C ++ (W ++ E)) ≡ bytesWith S C = simp append-assoc in
         rw q at h₃
-
-  many : {p : Product} {rs : List Rule} {k : ℕ} (x : Rule) (h : Here p (take n d) rs k) → h .later ≡ [] → length (take k rs ++ (x ∷ [])) ≡ length rs
-  many {rs = rs} {k = k} x h z = replaced-long rs [] k (h .r) x (h .from ∙ rw z)
 
   some : {p : Product} {rs : List Rule} {k : ℕ} (h : Here p (take n d) rs k) → 0 < length (h .r .elements)
   some {p} {rs} {k} h = omega (arith, rule-fits p k (h .r) (h .fits) .0)
@@ -183,13 +177,13 @@ module _ (n e t c : ℕ) (s d : List ℕ) where
     pub lengthen-large : isText s ≡ true → size ≡ textSize s → 60000 < n + 4 + size → Lengthens n e t c s d (Outcome.No Fault.Large 0) d
     unfolding Lengthens
     lengthen-large it es u p rs k x h o f z w m g b =
-        made-large n d refl (rw (many _ h z) m) (rw (longer-written h o f z w g (some h) b) (omega (arith, bytes-long h o f z w g (some h) (n + 4 + length (textBytes s) - (e + 24)) (c + 1), text-size s it)))
+        made-large n d refl (rw (as-many h _ z) m) (rw (longer-written h o f z w g (some h) b) (omega (arith, bytes-long h o f z w g (some h) (n + 4 + length (textBytes s) - (e + 24)) (c + 1), text-size s it)))
 
     pub lengthen-room : isText s ≡ true → size ≡ textSize s → n + 4 + size ≤ 60000 → length d < n + 4 + size → Lengthens n e t c s d (Outcome.No Fault.Room 0) d
     unfolding Lengthens
     lengthen-room it es u v p rs k x h o f z w m g b =
         let l = bytes-long h o f z w g (some h) (n + 4 + length (textBytes s) - (e + 24)) (c + 1) in
-        made-room n d refl (rw (many _ h z) m) (rw (longer-written h o f z w g (some h) b) (omega (arith, l, text-size s it))) (rw (longer-written h o f z w g (some h) b) (omega (arith, l, text-size s it)))
+        made-room n d refl (rw (as-many h _ z) m) (rw (longer-written h o f z w g (some h) b) (omega (arith, l, text-size s it))) (rw (longer-written h o f z w g (some h) b) (omega (arith, l, text-size s it)))
 
     pub lengthen-done : {y₁ y₂ y₃ y₄ : List ℕ} → isText s ≡ true → size ≡ textSize s → n + 4 + size ≤ 60000 → n + 4 + size ≤ length d → y₁ ≡ putIn d n (spelt 4 0) → y₂ ≡ putIn y₁ (n + 4) (textBytes s) → y₃ ≡ putIn y₂ (e + 20) (spelt 4 (n + 4 + size - (e + 24))) → y₄ ≡ putIn y₃ t (spelt 4 (c + 1))
         → Lengthens n e t c s d (Outcome.Done (n + 4 + size)) y₄
@@ -198,7 +192,7 @@ module _ (n e t c : ℕ) (s d : List ℕ) where
         let l = bytes-long h o f z w g (some h) (n + 4 + length (textBytes s) - (e + 24)) (c + 1) in
         let ts = es ∙ text-size s it in
         made-is n d (longer-holds h o f z w g (some h) (n + 4 + length (textBytes s) - (e + 24)) (c + 1) (omega arith) e₁ e₂ (rw ts at e₃) e₄) refl (sym (longer-written h o f z w g (some h) b))
-        (omega arith) (omega (arith, word-long s)) (rw (many _ h z) m) u
+        (omega arith) (omega (arith, word-long s)) (rw (as-many h _ z) m) u
 
 -- ---- what is judged before
 
@@ -206,48 +200,40 @@ at-words : (x : Element) (ws : List (List ℕ)) (g : ℕ → List (List ℕ) →
 unfolding atList
 at-words (id, v) ws g e = let z : v ≡ words ws = ap (λ (y : Element). y .1) e in rw z
 
+-- the last rule with a word more in the list that is its last element
+abbrev withWord : List ℕ → List Rule → ℕ → Rule → Plan
+withWord s rs k r = atList (drop (length (r .elements) - 1) (r .elements)) λ id ws. unlessFull (length ws)
+    (ifText s (become (take k rs ++ (holding (take (length (r .elements) - 1) (r .elements) ++ ((id, words (ws ++ (units s ∷ []))) ∷ [])) r ∷ []))))
+
 module _ (p : Product) (n m a : ℕ) (s d : List ℕ) where
   pub word-none : m ≡ 0 → MakesAs p lastOf n m a (addWord s) d (Outcome.No Fault.Last 0) d
-  unfolding MakesAs edited
-  word-none e rs o w em ea = made-no n d (no-last rs _ (omega arith))
-
-  -- whatever the last rule is
-  on-last : {e : ℕ} (r : Outcome) (d′ : List ℕ) → (m ≡ 0 → ⊥) → e ≡ nameEnd d a
-      → ((rs : List Rule) (h : Here p (take n d) rs (m - 1)) → h .later ≡ [] → n ≤ length d → length rs ≤ 256 → e ≡ startOf rs (m - 1) + 4 + length (string .write (h .r .name))
-      → Does n (atList (drop (length (h .r .elements) - 1) (h .r .elements)) λ id ws. unlessFull (length ws) (ifText s (become (take (m - 1) rs ++ (holding (take (length (h .r .elements) - 1) (h .r .elements) ++ ((id, words (ws ++ (units s ∷ []))) ∷ [])) (h .r) ∷ []))))) d r d′)
-      → MakesAs p lastOf n m a (addWord s) d r d′
-  unfolding MakesAs edited
-  on-last {e} r d′ l g f rs o w em ea = go (here p (take n d) rs (m - 1) o (omega arith)) (ap (λ (i : ℕ). i - 1) (sym em))
-    where
-      go : Here p (take n d) rs (m - 1) → length rs - 1 ≡ m - 1 → Does n (edited p (addWord s) rs) d r d′
-      go h ek =
-          let e′ : e ≡ startOf rs (m - 1) + 4 + length (string .write (h .r .name)) = g ∙ ap (nameEnd d) (ea ∙ ap (startOf rs) ek) ∙ name-end d (startOf rs (m - 1)) p (m - 1) (h .r) (here-in n d h) in
-          rw (ek, at-last rs (m - 1) _ (h .from)) (f rs h (last-rule h (omega arith)) w (sound-small n d o) e′)
+  unfolding edited
+  word-none e = on-none p n m a d (addWord s) (withWord s) (λ rs. refl) e
 
   -- y is what was told of the list
   module _ {e : ℕ} {y : Read} where
     pub word-no-list : {c : Fault} {q : ℕ} → (m ≡ 0 → ⊥) → e ≡ nameEnd d a → Lists p n (m - 1) e d y → y ≡ Read.No c q → MakesAs p lastOf n m a (addWord s) d (Outcome.No Fault.Last 0) d
-    unfolding Lists
-    word-no-list {c} {q} l g li k = on-last _ _ l g (λ rs h z w v e′. let u = li rs h z w e′ in rw (u .1 .0) (made-no n d (u .1 .1 .1 c q k _)))
+    unfolding Lists edited
+    word-no-list {c} {q} l g li k = on-last p n m a d (addWord s) (withWord s) (λ rs. refl) _ _ l g (λ rs h z w v e′. let u = li rs h z w e′ in rw (u .1 .0) (made-no n d (u .1 .1 .1 c q k _)))
 
     module _ {c t : ℕ} where
       pub word-full : (m ≡ 0 → ⊥) → e ≡ nameEnd d a → Lists p n (m - 1) e d y → y ≡ Read.Got c t → 64 ≤ c → MakesAs p lastOf n m a (addWord s) d (Outcome.No Fault.Full 0) d
-      unfolding Lists
-      word-full l g li k f = on-last _ _ l g (λ rs h z w v e′.
+      unfolding Lists edited
+      word-full l g li k f = on-last p n m a d (addWord s) (withWord s) (λ rs. refl) _ _ l g (λ rs h z w v e′.
           let u = li rs h z w e′ in
           let o = u .1 .1 .0 c t k in
           rw (u .1 .0) (made-no n d (at-words (u .0) (o .ws) _ (o .is) ∙ full _ _ (rw (o .many) at f))))
 
       pub word-text : (m ≡ 0 → ⊥) → e ≡ nameEnd d a → Lists p n (m - 1) e d y → y ≡ Read.Got c t → c < 64 → isText s ≡ false → MakesAs p lastOf n m a (addWord s) d (Outcome.No Fault.Text 0) d
-      unfolding Lists
-      word-text l g li k f b = on-last _ _ l g (λ rs h z w v e′.
+      unfolding Lists edited
+      word-text l g li k f b = on-last p n m a d (addWord s) (withWord s) (λ rs. refl) _ _ l g (λ rs h z w v e′.
           let u = li rs h z w e′ in
           let o = u .1 .1 .0 c t k in
           rw (u .1 .0) (made-no n d (at-words (u .0) (o .ws) _ (o .is) ∙ not-full _ _ (rw (o .many) at f) ∙ no-text s _ b)))
 
       pub word-done : (r : Outcome) (d′ : List ℕ) → (m ≡ 0 → ⊥) → e ≡ nameEnd d a → Lists p n (m - 1) e d y → y ≡ Read.Got c t → c < 64 → Bytes s → isText s ≡ true → Lengthens n e t c s d r d′ → MakesAs p lastOf n m a (addWord s) d r d′
-      unfolding Lists Lengthens
-      word-done r d′ l g li k f bs b x = on-last r d′ l g (λ rs h z w v e′.
+      unfolding Lists Lengthens edited
+      word-done r d′ l g li k f bs b x = on-last p n m a d (addWord s) (withWord s) (λ rs. refl) r d′ l g (λ rs h z w v e′.
           let u = li rs h z w e′ in
           let o = u .1 .1 .0 c t k in
           rw (u .1 .0, at-words (u .0) (o .ws) _ (o .is), not-full _ _ (rw (o .many) at f), if-text s _ b) (x p rs (m - 1) (u .0) h o (u .1 .0) z w v e′ (text-is s bs b)))

@@ -1,5 +1,4 @@
 use Rattle.plan.specs.Found.{edit-unknown, edit-no, edit-made, found-within}
-use Rattle.plan.specs.Edit.{addRule}
 use Rattle.locate.specs.Located.{lastOf}
 use Rattle.format.specs.Format.{bytes-all}
 use borrow.Author.Needs.{needs}
@@ -7,10 +6,10 @@ use Rattle.add.proofs.add_rule.Statement.{statement}
 use Rattle.add.proofs.add_rule.Tie as tie
 
 returns : tie.Need-returns
-returns c = edit-unknown lastOf _ _ _ _ (c .before .before .edition-of .ensures) (c .enum-told .given .1)
+returns c = edit-unknown _ _ _ _ (c .before .before .edition-of .ensures) (c .enum-told .given .1)
 
 rule-in-requires : tie.Need-rule-in-requires
-rule-in-requires c κs = let o = c .before .before .before .before .before .before .before .before .before .before .before .before .before in let w = found-within lastOf _ _ _ (addRule (o .args .name .now) (o .args .fields) (o .args .identifier) (o .args .s .now)) (bytes-all (o .args .buf .now) (c .before .before .before .before .before .before .before .before .before .before .before .before .slice-known .given)) (c .before .before .before .before .find-last .ensures) (c .before .before .f2 .given .1) in (w .short, w .few)
+rule-in-requires c κs = let o = c .before .before .before .before .before .before .before .before .before .before .before .before .before in let w = found-within lastOf _ _ _ (bytes-all (o .args .buf .now) (c .before .before .before .before .before .before .before .before .before .before .before .before .slice-known .given)) (c .before .before .before .before .find-last .ensures) (c .before .before .f2 .given .1) in (w .short, w .few)
 
 returns-2 : tie.Need-returns-2
 returns-2 c = edit-no _ _ _ _ _ (c .before .before .before .find-last .ensures) (c .before .f .given .1)

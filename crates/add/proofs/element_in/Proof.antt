@@ -1,7 +1,7 @@
 use Rattle.locate.specs.Steps.{name-within}
 use Rattle.format.specs.Format.{bytes-all}
 use native.Mathlib.Omega.{arith}
-use Rattle.add.specs.Element.{element-none, element-cut, element-full, element-given, element-done}
+use Rattle.add.specs.Element.{element-none, element-uncounted, element-full, element-given, element-done}
 use borrow.Author.Needs.{needs}
 use Rattle.add.proofs.element_in.Statement.{statement}
 use Rattle.add.proofs.element_in.Tie as tie
@@ -13,7 +13,7 @@ add-u16-at : tie.Need-add-u16-at
 add-u16-at c = let o = c .before .before .before .before .before .before in let w = name-within (o .args .buf .now) (o .args .a) (o .pre .0) in search (needs, w, c .before .name-end .ensures)
 
 returns-2 : tie.Need-returns-2
-returns-2 c = element-cut _ _ _ _ _ _ _ _ _ (c .before .before .before .before .before .before .if1 .left) (c .before .before .before .before .name-end .ensures) (c .before .before .u16-at .ensures) (c .enum-told .given .1)
+returns-2 c = element-uncounted _ _ _ _ _ _ _ _ _ (c .before .before .before .before .before .before .if1 .left) (c .before .before .before .before .name-end .ensures) (c .before .before .u16-at .ensures) (c .enum-told .given .1)
 
 returns-3 : tie.Need-returns-3
 returns-3 c = element-full _ _ _ _ _ _ _ (c .before .before .before .before .before .before .before .before .if1 .left) (c .before .before .before .before .before .before .name-end .ensures) (c .before .before .before .before .u16-at .ensures) (c .before .before .z .given .1) (c .if2 .taken)

@@ -1,4 +1,5 @@
-use Rattle.add.specs.Rule.{text-small, extend-rules, extend-large, extend-room, extend-done}
+use Rattle.parts.specs.Text.{text-small}
+use Rattle.add.specs.Rule.{extend-rules, extend-large, extend-room, extend-done}
 use Rattle.parts.specs.Text.{text-size}
 use native.Mathlib.Omega.{arith}
 use borrow.Author.Needs.{needs}

@@ -10,7 +10,7 @@ returns : tie.Need-returns
 returns c = edit-done _ _ _ _ _ (bytes-all (c .before .before .before .before .before .before .before .before .args .buf .now) (c .before .before .before .before .before .before .before .slice-known .given)) (c .before .before .before .before .find .ensures) (c .before .before .f2 .given .1) (rename-absent _ _ _ _ _ _ _ _ (c .if1 .taken))
 
 rename-at-requires : tie.Need-rename-at-requires
-rename-at-requires c κs = found-named _ _ _ _ (c .before .before .before .before .before .before .before .before .before .before .before .args .name .now) (bytes-all (c .before .before .before .before .before .before .before .before .before .before .before .args .buf .now) (c .before .before .before .before .before .before .before .before .before .before .slice-known .given)) (c .before .before .before .before .before .before .before .find .ensures) (c .before .before .before .before .before .f2 .given .1) (omega (arith, c .before .before .before .if1 .left)) (c .before .name-end .ensures)
+rename-at-requires c κs = found-named _ _ _ _ (bytes-all (c .before .before .before .before .before .before .before .before .before .before .before .args .buf .now) (c .before .before .before .before .before .before .before .before .before .before .slice-known .given)) (c .before .before .before .before .before .before .before .find .ensures) (c .before .before .before .before .before .f2 .given .1) (omega (arith, c .before .before .before .if1 .left)) (c .before .name-end .ensures)
 
 returns-2 : tie.Need-returns-2
 returns-2 c = edit-no _ _ _ _ _ (c .before .before .before .find .ensures) (c .before .f .given .1)

@@ -7,7 +7,7 @@ returns : tie.Need-returns
 returns c = no-room _ _ marker-long (c .if1 .taken)
 
 returns-2 : tie.Need-returns-2
-returns-2 c = all-put _ _ (marker-put _ (c .before .before .before .before .before .before .put-one-zero .ensures) (c .before .before .put-number .ensures)) marker-long (c .before .before .before .before .before .before .before .before .if1 .left)
+returns-2 c = all-put _ _ (marker-put _ (c .before .before .before .before .before .before .put-one-zero .ensures) (c .before .before .put-number .ensures) (c .before .before .before .before .before .before .before .before .if1 .left)) marker-long (c .before .before .before .before .before .before .before .before .if1 .left)
 
 pub put-marker-spec : {M : Type 1} → statement M
 put-marker-spec =

@@ -7,7 +7,7 @@ returns : tie.Need-returns
 returns c = no-room _ _ (sizes-long _ _) (c .if1 .taken)
 
 returns-2 : tie.Need-returns-2
-returns-2 c = all-put _ _ (sizes-put _ (c .before .before .before .before .before .before .before .before .before .before .put-one-zero .ensures) _ _ (c .before .before .before .before .before .before .put-number .ensures) (c .before .before .put-number2 .ensures)) (sizes-long _ _) (c .before .before .before .before .before .before .before .before .before .before .before .before .if1 .left)
+returns-2 c = all-put _ _ (sizes-put _ (c .before .before .before .before .before .before .before .before .before .before .put-one-zero .ensures) _ _ (c .before .before .before .before .before .before .put-number .ensures) (c .before .before .put-number2 .ensures) (c .before .before .before .before .before .before .before .before .before .before .before .before .if1 .left)) (sizes-long _ _) (c .before .before .before .before .before .before .before .before .before .before .before .before .if1 .left)
 
 pub put-sizes-spec : {M : Type 1} → statement M
 put-sizes-spec =

@@ -8,7 +8,7 @@ returns : tie.Need-returns
 returns c = no-room _ _ (span-long _ _) (omega arith)
 
 returns-2 : tie.Need-returns-2
-returns-2 c = all-put _ _ (span-put _ (c .before .before .before .before .before .before .before .before .before .before .put-one-zero .ensures) _ _ (c .before .before .before .before .before .before .put-limit .ensures) (c .before .before .put-limit2 .ensures)) (span-long _ _) (omega arith)
+returns-2 c = all-put _ _ (span-put _ (c .before .before .before .before .before .before .before .before .before .before .put-one-zero .ensures) _ _ (c .before .before .before .before .before .before .put-limit .ensures) (c .before .before .put-limit2 .ensures) (omega arith)) (span-long _ _) (omega arith)
 
 pub put-span-spec : {M : Type 1} → statement M
 put-span-spec =

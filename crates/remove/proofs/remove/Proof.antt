@@ -1,6 +1,5 @@
 use native.Mathlib.Omega.{arith}
 use Rattle.format.specs.Format.{bytes-all}
-use Rattle.plan.specs.Edit.{remove}
 use Rattle.plan.specs.Found.{edit-no, edit-done, found-within}
 use Rattle.remove.specs.Remove.{remove-absent, found-next}
 use borrow.Author.Needs.{needs}
@@ -11,13 +10,13 @@ returns : tie.Need-returns
 returns c = edit-done _ _ _ _ _ (bytes-all (c .before .before .before .before .before .before .before .args .buf .now) (c .before .before .before .before .before .before .slice-known .given)) (c .before .before .before .before .find .ensures) (c .before .before .f2 .given .1) (remove-absent _ _ _ _ _ _ _ (c .if1 .taken))
 
 remove-other-requires : tie.Need-remove-other-requires
-remove-other-requires c κs = (found-within _ _ _ _ (remove 0) (bytes-all (c .before .before .before .before .before .before .before .before .before .args .buf .now) (c .before .before .before .before .before .before .before .before .slice-known .given)) (c .before .before .before .before .before .before .find .ensures) (c .before .before .before .before .f2 .given .1), omega (arith, c .before .before .if1 .left))
+remove-other-requires c κs = (found-within _ _ _ _ (bytes-all (c .before .before .before .before .before .before .before .before .before .args .buf .now) (c .before .before .before .before .before .before .before .before .slice-known .given)) (c .before .before .before .before .before .before .find .ensures) (c .before .before .before .before .f2 .given .1), omega (arith, c .before .before .if1 .left))
 
 returns-2 : tie.Need-returns-2
 returns-2 c = edit-done _ _ _ _ _ (bytes-all (c .before .before .before .before .before .before .before .before .before .before .before .before .args .buf .now) (c .before .before .before .before .before .before .before .before .before .before .before .slice-known .given)) (c .before .before .before .before .before .before .before .before .before .find .ensures) (c .before .before .before .before .before .before .before .f2 .given .1) (c .before .before .remove-other .ensures _ _ (omega (arith, c .before .before .before .before .before .if1 .left)) (λ e. omega (arith, c .before .before .before .before .if2 .taken)))
 
 remove-other-requires-2 : tie.Need-remove-other-requires-2
-remove-other-requires-2 c κs = (found-within _ _ _ _ (remove 0) (bytes-all (c .before .before .before .before .before .before .before .before .before .before .args .buf .now) (c .before .before .before .before .before .before .before .before .before .slice-known .given)) (c .before .before .before .before .before .before .before .find .ensures) (c .before .before .before .before .before .f2 .given .1), omega (arith, c .before .before .before .if1 .left))
+remove-other-requires-2 c κs = (found-within _ _ _ _ (bytes-all (c .before .before .before .before .before .before .before .before .before .before .args .buf .now) (c .before .before .before .before .before .before .before .before .before .slice-known .given)) (c .before .before .before .before .before .before .before .find .ensures) (c .before .before .before .before .before .f2 .given .1), omega (arith, c .before .before .before .if1 .left))
 
 returns-3 : tie.Need-returns-3
 returns-3 c = edit-done _ _ _ _ _ (bytes-all (c .before .before .before .before .before .before .before .before .before .before .before .before .before .args .buf .now) (c .before .before .before .before .before .before .before .before .before .before .before .before .slice-known .given)) (c .before .before .before .before .before .before .before .before .before .before .find .ensures) (c .before .before .before .before .before .before .before .before .f2 .given .1) (c .before .before .remove-other2 .ensures _ _ (omega (arith, c .before .before .before .before .before .before .if1 .left)) (λ e. c .before .before .before .before .if3 .taken))

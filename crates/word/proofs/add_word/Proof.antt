@@ -1,5 +1,4 @@
 use Rattle.plan.specs.Found.{edit-unknown, edit-no, edit-made, found-within}
-use Rattle.plan.specs.Edit.{addWord}
 use Rattle.locate.specs.Located.{lastOf}
 use Rattle.format.specs.Format.{bytes-all}
 use native.Mathlib.Omega.{arith}
@@ -8,10 +7,10 @@ use Rattle.word.proofs.add_word.Statement.{statement}
 use Rattle.word.proofs.add_word.Tie as tie
 
 returns : tie.Need-returns
-returns c = edit-unknown lastOf _ _ _ _ (c .before .before .edition-of .ensures) (c .enum-told .given .1)
+returns c = edit-unknown _ _ _ _ (c .before .before .edition-of .ensures) (c .enum-told .given .1)
 
 word-in-requires : tie.Need-word-in-requires
-word-in-requires c κs = let o = c .before .before .before .before .before .before .before .before .before .before .before .before in let w = found-within lastOf _ _ _ (addWord (o .args .word .now)) (bytes-all (o .args .buf .now) (c .before .before .before .before .before .before .before .before .before .before .before .slice-known .given)) (c .before .before .before .before .find-last .ensures) (c .before .before .f2 .given .1) in (omega (arith, w .order, w .inside, w .room), w .short)
+word-in-requires c κs = let o = c .before .before .before .before .before .before .before .before .before .before .before .before in let w = found-within lastOf _ _ _ (bytes-all (o .args .buf .now) (c .before .before .before .before .before .before .before .before .before .before .before .slice-known .given)) (c .before .before .before .before .find-last .ensures) (c .before .before .f2 .given .1) in (omega (arith, w .order, w .inside, w .room), w .short)
 
 returns-2 : tie.Need-returns-2
 returns-2 c = edit-no _ _ _ _ _ (c .before .before .before .find-last .ensures) (c .before .f .given .1)

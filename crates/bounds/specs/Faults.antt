@@ -1,0 +1,221 @@
+-- Which faults a reading can be refused for, from those of its parts.
+use Prim.Native.Nat.{ℕ, zero, suc, _+_}
+use mathlib.Core.Path.{_≡_}
+use mathlib.Core.Bool.{Bool, true, false}
+use mathlib.Core.List.{List}
+use lib.Dec.{leb, eqb}
+use lib.ListN.{length, take, drop}
+use Rattle.format.specs.declared.Fault.{Fault}
+use Rattle.format.specs.declared.Fault.the-variants as Fault
+use Rattle.format.specs.Format.{Answer, got, refused, shift, mapped, andThen, whole, pick, Format}
+use Rattle.format.specs.Join.{pair, pairRead, judge, judgeOf, judged, via, home, atStart, nothing, seq, _then_}
+use Rattle.format.specs.Number.{number, numberRead, value, fixed, bytes, count, flag}
+use Rattle.format.specs.Each.{each, eachRead, counted, listed}
+use Rattle.format.specs.Sized.{weighed, measured, sized}
+use Rattle.text.specs.Text.{extended, stringLength, string, word}
+use Rattle.date.specs.Date.{date}
+use Rattle.kind.specs.declared.Product.{Product}
+use Rattle.kind.specs.declared.Role.the-variants.{Condition}
+use Rattle.kind.specs.declared.Kind.{Kind}
+use Rattle.kind.specs.declared.Kind.the-variants as Kind
+use Rattle.kind.specs.declared.Row.{Row}
+use Rattle.kind.specs.declared.Row.the-variants as Row
+use Rattle.kind.specs.Kinds.{kinds, rowIn}
+use Rattle.element.specs.Data.{oneZero, markerData, simpleData, wordData, sizeData, limit, dateData, dataOf}
+use Rattle.element.specs.Element.{dataBy, identifier, element}
+use Rattle.rule.specs.Rule.{classHead, firstHead, head, placed, body, fromUnknown4, fromUnknown2, fields, rule}
+use Rattle.deck.specs.Deck.{header, deck, readAs}
+
+-- an answer is refused, if it is, for one of P's faults
+unfoldable pub For : {A : Type 0} → (Fault → Type 0) → Answer A → Type 0
+For P (got x n) = Unit {0}
+For P (refused c q) = P c
+
+-- and so is every reading of a format
+unfoldable pub Gives : {A : Type 0} → (Fault → Type 0) → Format A → Type 0
+Gives P a = (s : List ℕ) → For P (a .read s)
+
+pub for-refused : {A : Type 0} (P : Fault → Type 0) {a : Answer A} {c : Fault} {q : ℕ} → For P a → a ≡ refused c q → P c
+unfolding For
+for-refused P f e = rw e at f
+
+module _ (P : Fault → Type 0) where
+  pub for-mapped : {A B : Type 0} (f : A → B) (q : Answer A) → For P q → For P (mapped f q)
+  unfolding For mapped
+  for-mapped f (got x n) h = tt
+  for-mapped f (refused c o) h = h
+
+  for-shift : {A : Type 0} (k : ℕ) (q : Answer A) → For P q → For P (shift k q)
+  unfolding For shift
+  for-shift k (got x n) h = tt
+  for-shift k (refused c o) h = h
+
+  for-then : {A B : Type 0} (q : Answer A) (k : A → ℕ → Answer B) → For P q → ((x : A) (n : ℕ) → For P (k x n)) → For P (andThen q k)
+  unfolding For andThen
+  for-then (got x n) k h f = for-shift n (k x n) (f x n)
+  for-then (refused c o) k h f = h
+
+  pub for-whole : {A : Type 0} (n : ℕ) (q : Answer A) → P Fault.Over → For P q → For P (whole n q)
+  unfolding For whole pick
+  for-whole n (got x m) o h = go (eqb m n)
+    where
+      go : (b : Bool) → For P (pick b (got x m) (refused Fault.Over m))
+      go true = tt
+      go false = o
+  for-whole n (refused c p) o h = h
+
+  -- ---- the combinators
+  gives-nothing : Gives P nothing
+  unfolding Gives For nothing
+  gives-nothing s = tt
+
+  gives-pick : {A : Type 0} (t : Bool) (a b : Format A) → Gives P a → Gives P b → Gives P (pick t a b)
+  unfolding pick
+  gives-pick true a b f g = f
+  gives-pick false a b f g = g
+
+  gives-judged : {A : Type 0} (ok : A → Bool) (c : Fault) (a : Format A) → P c → Gives P a → Gives P (judged ok c a)
+  unfolding Gives For judged judgeOf judge
+  gives-judged {A} ok c a h f s = go (a .read s) (f s)
+    where
+      by : (b : Bool) (x : A) (n : ℕ) → For P (judge c b x n)
+      by true x n = tt
+      by false x n = h
+
+      go : (q : Answer A) → For P q → For P (judgeOf ok c q)
+      go (got x n) w = by (ok x) x n
+      go (refused d o) w = w
+
+  gives-via : {A B : Type 0} (a : Format A) (to : A → B) (from : B → A) (same : (x : A) → a .Fit x → from (to x) ≡ x) → Gives P a → Gives P (via a to from same)
+  unfolding Gives via
+  gives-via a to from same f s = for-mapped to (a .read s) (f s)
+
+  gives-start : {A : Type 0} (a : Format A) → Gives P a → Gives P (atStart a)
+  unfolding Gives For atStart home
+  gives-start {A} a f s = go (a .read s) (f s)
+    where
+      go : (q : Answer A) → For P q → For P (home q)
+      go (got x n) w = tt
+      go (refused c o) w = w
+
+  gives-pair : {A B : Type 0} (a : Format A) (b : A → Format B) → Gives P a → ((x : A) → Gives P (b x)) → Gives P (pair a b)
+  unfolding Gives pair pairRead
+  gives-pair a b f g s = for-then (a .read s) _ (f s) (λ x n. for-mapped _ (b x .read (drop n s)) (g x (drop n s)))
+
+  gives-then : {B : Type 0} (a : Format (Unit {0})) (b : Format B) → Gives P a → Gives P b → Gives P (a then b)
+  unfolding _then_ seq
+  gives-then a b f g = gives-via _ _ _ _ (gives-pair a (λ x. b) f (λ x. g))
+
+  for-each : {A : Type 0} (a : ℕ → Format A) → ((i : ℕ) → Gives P (a i)) → (i k : ℕ) (s : List ℕ) → For P (eachRead a i k s)
+  unfolding Gives For eachRead
+  for-each a f i zero s = tt
+  for-each a f i (suc k) s = for-then (a i .read s) _ (f i s) (λ x n. for-mapped _ (eachRead a (i + 1) k (drop n s)) (for-each a f (i + 1) k (drop n s)))
+
+  gives-each : {A : Type 0} (a : ℕ → Format A) → ((i : ℕ) → Gives P (a i)) → (i k : ℕ) → Gives P (each a i k)
+  unfolding Gives each
+  gives-each a f i k s = for-each a f i k s
+
+  gives-counted : {A : Type 0} (l : Format ℕ) (a : ℕ → Format (List A)) (long : (n : ℕ) (xs : List A) → a n .Fit xs → length xs ≡ n) → Gives P l → ((n : ℕ) → Gives P (a n)) → Gives P (counted l a long)
+  unfolding counted
+  gives-counted l a long f g = gives-via _ _ _ _ (gives-pair l a f g)
+
+  gives-listed : {A : Type 0} (l : Format ℕ) (a : Format A) → Gives P l → Gives P a → Gives P (listed l a)
+  unfolding listed
+  gives-listed l a f g = gives-counted l _ _ f (gives-each (λ i. a) (λ i. g) 0)
+
+  gives-measured : {A : Type 0} (a : Format A) → Gives P a → Gives P (measured a)
+  unfolding Gives For measured weighed
+  gives-measured {A} a f s = go (a .read s) (f s)
+    where
+      go : (q : Answer A) → For P q → For P (weighed q)
+      go (got x n) w = tt
+      go (refused c o) w = w
+
+  -- ---- what data give
+  module _ (cut : P Fault.Cut) (many : P Fault.Count) (form : P Fault.Form) (wrong : P Fault.Field) (day : P Fault.Date) where
+    gives-number : (k : ℕ) → Gives P (number k)
+    unfolding Gives For number numberRead pick
+    gives-number k s = go (leb k (length s))
+      where
+        go : (b : Bool) → For P (pick b (got (value (take k s)) k) (refused Fault.Cut 0))
+        go true = tt
+        go false = cut
+
+    gives-fixed : (k v : ℕ) (c : Fault) → P c → Gives P (fixed k v c)
+    unfolding fixed
+    gives-fixed k v c h = gives-via _ _ _ _ (gives-judged _ c (number k) h (gives-number k))
+
+    gives-count : (k low high : ℕ) → Gives P (count k low high)
+    unfolding count
+    gives-count k low high = gives-judged _ Fault.Count (number k) many (gives-number k)
+
+    gives-flag : Gives P flag
+    unfolding flag
+    gives-flag = gives-via _ _ _ _ (gives-judged _ Fault.Field (number 4) wrong (gives-number 4))
+
+    gives-string : Gives P string
+    unfolding string stringLength extended
+    gives-string = gives-start _ (gives-listed _ (number 2) (gives-via _ _ _ _ (gives-pair (number 1) _ (gives-number 1) (λ n. gives-pick (eqb n 255) _ nothing (gives-fixed 2 255 Fault.Form form) gives-nothing))) (gives-number 2))
+
+    gives-word : Gives P word
+    unfolding word
+    gives-word = gives-then _ string (gives-fixed 4 0 Fault.Field wrong) gives-string
+
+    gives-one-zero : Gives P oneZero
+    unfolding oneZero
+    gives-one-zero = gives-then _ _ (gives-fixed 4 1 Fault.Field wrong) (gives-fixed 4 0 Fault.Field wrong)
+
+    gives-limit : Gives P limit
+    unfolding limit seq date
+    gives-limit = gives-via _ _ _ _ (gives-pair flag _ gives-flag (λ x. gives-then _ _ (gives-fixed 4 0 Fault.Field wrong) (gives-judged _ Fault.Date (number 8) day (gives-number 8))))
+
+    pub gives-data : (k : Kind) → Gives P (dataOf k)
+    unfolding markerData simpleData wordData sizeData dateData seq
+    gives-data Kind.Marker = gives-via _ _ _ _ (gives-then oneZero _ gives-one-zero (gives-fixed 4 1 Fault.Field wrong))
+    gives-data (Kind.Simple r) = gives-via _ _ _ _ gives-one-zero
+    gives-data Kind.WordList = gives-via _ _ _ _ (gives-listed _ word (gives-count 4 0 64) gives-word)
+    gives-data (Kind.Size r) = gives-via _ _ _ _ (gives-then oneZero _ gives-one-zero (gives-pair (number 4) _ (gives-number 4) (λ x. gives-number 4)))
+    gives-data (Kind.Dates r) = gives-via _ _ _ _ (gives-then oneZero _ gives-one-zero (gives-pair limit _ gives-limit (λ x. gives-limit)))
+
+    -- ---- what a deck gives
+    module _ (unknown : P Fault.Unknown) (foreign : P Fault.Foreign) (size : P Fault.Size) where
+      gives-by : (r : Row) → Gives P (dataBy r)
+      gives-by (Row.Is k) = gives-data k
+      gives-by (Row.No c q) = gives-data (Kind.Simple Condition)
+
+      gives-element : (p : Product) → Gives P (element p)
+      unfolding element identifier
+      gives-element p = gives-pair _ _ (gives-judged _ Fault.Foreign _ foreign (gives-judged _ Fault.Unknown (number 4) unknown (gives-number 4))) (λ id. gives-by (rowIn kinds id))
+
+      gives-placed : (p : Product) (j : ℕ) → Gives P (placed p j)
+      unfolding placed
+      gives-placed p j = gives-pick (eqb j 0) (element p) _ (gives-element p) (gives-then _ (element p) (gives-fixed 2 0x8001 Fault.Field wrong) (gives-element p))
+
+      gives-head : (i : ℕ) → Gives P (head i)
+      unfolding head firstHead classHead bytes
+      gives-head i = gives-pick (eqb i 0) _ _ (gives-then _ _ (gives-fixed 2 0xFFFF Fault.Field wrong) (gives-then _ _ (gives-fixed 2 0x0000 Fault.Field wrong) (gives-then _ _ (gives-fixed 2 0x000C Fault.Field wrong) (gives-fixed _ _ Fault.Field wrong)))) (gives-fixed 2 0x8001 Fault.Field wrong)
+
+      gives-body : (p : Product) (i : ℕ) → Gives P (body p i)
+      unfolding body
+      gives-body p i = gives-counted _ _ _ (gives-count 2 1 64) (λ n. gives-then _ _ (gives-head i) (gives-each (placed p) (gives-placed p) 0 n))
+
+      gives-sized : {A : Type 0} (a : Format A) → Gives P a → Gives P (sized Fault.Size a)
+      unfolding sized
+      gives-sized a f = gives-via _ _ _ _ (gives-judged _ Fault.Size _ size (gives-pair (number 4) _ (gives-number 4) (λ n. gives-measured a f)))
+
+      gives-rule : (p : Product) (i : ℕ) → Gives P (rule p i)
+      unfolding rule fields fromUnknown2 fromUnknown4 seq
+      gives-rule p i =
+          let n = gives-number 4 in
+          gives-via _ _ _ _ (gives-pair _ _ n (λ a. gives-pair _ _ gives-string (λ b. gives-pair _ _ gives-flag (λ c. gives-pair _ _ n (λ d. gives-pair _ _ n (λ e. gives-pair _ _ n (λ f. gives-pair _ _ n (λ g. gives-sized _ (gives-body p i)))))))))
+
+      pub for-deck : (p : Product) (s : List ℕ) → P Fault.Mark → P Fault.Version → P Fault.Long → P Fault.Over → For P (readAs p s)
+      unfolding readAs For pick Gives deck header bytes
+      for-deck p s mark version long over = go (leb (length s) 60000)
+        where
+          deep : Gives P (deck p)
+          deep = gives-counted _ _ _ (gives-then _ _ (gives-fixed _ _ Fault.Mark mark) (gives-then _ _ (gives-fixed 2 1 Fault.Version version) (gives-count 2 0 256))) (gives-each (rule p) (gives-rule p) 0)
+
+          go : (b : Bool) → For P (pick b (whole (length s) (deck p .read s)) (refused Fault.Long 60000))
+          go true = for-whole (length s) (deck p .read s) over (deep s)
+          go false = long

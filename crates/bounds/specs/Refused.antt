@@ -1,0 +1,99 @@
+-- What an edit can be refused for, from what its parts can: N says which faults are its own, and at which places, G which are of what it is given.
+use Prim.Native.Nat.{ℕ}
+use mathlib.Core.Path.{_≡_, refl}
+use mathlib.Core.Bool.{Bool, true, false}
+use mathlib.Core.List.{List, [], _∷_}
+use Rattle.format.specs.declared.Fault.{Fault}
+use Rattle.format.specs.declared.Fault.the-variants as Fault
+use Rattle.format.specs.Format.{Answer, got, refused, pick}
+use Rattle.kind.specs.declared.Product.{Product}
+use Rattle.element.specs.Data.{plain, words, sizes, span}
+use Rattle.element.specs.Element.{Element}
+use Rattle.rule.specs.Rule.{Rule}
+use Rattle.deck.specs.Deck.{readAs}
+use Rattle.plan.specs.Given.{given}
+use Rattle.plan.specs.Edit.{Edit, switch, rename, remove, insert, addRule, addElement, addWord, Plan, become, refuse, refuseGiven, atRule, atCopy, atSecond, atLast, atList, unlessFull, ifText, atGiven, edited}
+
+-- a plan that is refused, if it is, as they say
+abbrev pub Only : (Fault → ℕ → Type 0) → (Fault → ℕ → Type 0) → Plan → Type 0
+Only N G (become rs) = Unit {0}
+Only N G (refuse c q) = N c q
+Only N G (refuseGiven c q) = G c q
+
+-- what an edit judges itself, before 18, 19 and 20
+pub record Own (N : Fault → ℕ → Type 0) : Type 0 where
+  pub absent : N Fault.Absent 0
+  pub copied : N Fault.Absent 1
+  pub text : N Fault.Text 0
+  pub full : N Fault.Full 0
+  pub last : N Fault.Last 0
+
+-- what it is given is refused as G says
+abbrev pub Refuses : {A : Type 0} → (Fault → ℕ → Type 0) → Answer A → Type 0
+Refuses G a = (c : Fault) (q : ℕ) → a ≡ refused c q → G c q
+
+abbrev pub OfGiven : (Fault → ℕ → Type 0) → Product → Edit → Type 0
+OfGiven G p (switch k on) = Unit {0}
+OfGiven G p (rename k name) = Unit {0}
+OfGiven G p (remove k) = Unit {0}
+OfGiven G p (insert k second j) = Refuses G (readAs p second)
+OfGiven G p (addRule name f id s) = Refuses G (given p id s)
+OfGiven G p (addElement id s) = Refuses G (given p id s)
+OfGiven G p (addWord word) = Unit {0}
+
+module _ (N G : Fault → ℕ → Type 0) (o : Own N) where
+  only-pick : (b : Bool) (q : Plan) (c : Fault) (at : ℕ) → Only N G q → N c at → Only N G (pick b q (refuse c at))
+  unfolding pick
+  only-pick true q c at f h = f
+  only-pick false q c at f h = h
+
+  only-text : (s : List ℕ) (q : Plan) → Only N G q → Only N G (ifText s q)
+  unfolding ifText
+  only-text s q f = only-pick _ q Fault.Text 0 f (o .text)
+
+  only-full : (n : ℕ) (q : Plan) → Only N G q → Only N G (unlessFull n q)
+  unfolding unlessFull
+  only-full n q f = only-pick _ q Fault.Full 0 f (o .full)
+
+  only-rule : (ys : List Rule) (f : Rule → List Rule → Plan) → ((r : Rule) (later : List Rule) → Only N G (f r later)) → Only N G (atRule ys f)
+  unfolding atRule
+  only-rule [] f g = o .absent
+  only-rule (r ∷ later) f g = g r later
+
+  only-copy : (ys : List Rule) (f : Rule → Plan) → ((r : Rule) → Only N G (f r)) → Only N G (atCopy ys f)
+  unfolding atCopy
+  only-copy [] f g = o .copied
+  only-copy (r ∷ later) f g = g r
+
+  only-last : (ys : List Rule) (f : Rule → Plan) → ((r : Rule) → Only N G (f r)) → Only N G (atLast ys f)
+  unfolding atLast
+  only-last [] f g = o .last
+  only-last (r ∷ later) f g = g r
+
+  only-list : (ys : List Element) (f : ℕ → List (List ℕ) → Plan) → ((id : ℕ) (ws : List (List ℕ)) → Only N G (f id ws)) → Only N G (atList ys f)
+  unfolding atList
+  only-list [] f g = o .last
+  only-list ((id, plain) ∷ later) f g = o .last
+  only-list ((id, words ws) ∷ later) f g = g id ws
+  only-list ((id, sizes a b) ∷ later) f g = o .last
+  only-list ((id, span a b) ∷ later) f g = o .last
+
+  only-given : (a : Answer Element) (f : Element → Plan) → Refuses G a → ((x : Element) → Only N G (f x)) → Only N G (atGiven a f)
+  unfolding atGiven
+  only-given (got x n) f h g = g x
+  only-given (refused c q) f h g = h c q refl
+
+  only-second : (a : Answer (List Rule)) (f : List Rule → Plan) → Refuses G a → ((qs : List Rule) → Only N G (f qs)) → Only N G (atSecond a f)
+  unfolding atSecond
+  only-second (got qs n) f h g = g qs
+  only-second (refused c q) f h g = h c q refl
+
+  pub only-edited : (p : Product) (e : Edit) (rs : List Rule) → OfGiven G p e → Only N G (edited p e rs)
+  unfolding edited
+  only-edited p (switch k on) rs h = only-rule _ _ (λ r later. tt)
+  only-edited p (rename k name) rs h = only-rule _ _ (λ r later. only-text name _ tt)
+  only-edited p (remove k) rs h = only-rule _ _ (λ r later. tt)
+  only-edited p (insert k second j) rs h = only-second _ _ h (λ qs. only-pick _ _ Fault.Absent 0 (only-copy _ _ (λ q. tt)) (o .absent))
+  only-edited p (addRule name f id s) rs h = only-text name _ (only-given _ _ h (λ x. tt))
+  only-edited p (addElement id s) rs h = only-last _ _ (λ r. only-full _ _ (only-given _ _ h (λ x. tt)))
+  only-edited p (addWord word) rs h = only-last _ _ (λ r. only-list _ _ (λ id ws. only-full _ _ (only-text word _ tt)))
