@@ -11,14 +11,15 @@ use Rattle.format.specs.declared.Fault.the-variants as Fault
 use Rattle.format.specs.declared.Outcome.{Outcome}
 use Rattle.format.specs.declared.Outcome.the-variants as Outcome
 use Rattle.format.specs.Format.{pick}
+use Rattle.format.specs.Written.{Held}
 use Rattle.kind.specs.declared.Product.{Product}
-use Rattle.rule.specs.Rule.{Rule}
-use Rattle.rule.specs.Parts.{front, back}
+use Rattle.rule.specs.Rule.{Rule, rule}
+use Rattle.rule.specs.Parts.{front, back, rule-is}
 use Rattle.deck.specs.Written.{written, written-is, before, rules, rules-cons, startOf}
 use Rattle.deck.specs.Deck.{deck-small}
 use Rattle.buffer.specs.Laid.{laid}
 use Rattle.buffer.specs.Holds.{Holds}
-use Rattle.locate.specs.Steps.{Sound, Here, Stands}
+use Rattle.locate.specs.Steps.{Sound, Here}
 use Rattle.plan.specs.Edit.{Plan, become, refuse, refuseGiven, atRule, room, says, leaves}
 use Rattle.plan.specs.Found.{Does}
 
@@ -26,13 +27,12 @@ use Rattle.plan.specs.Found.{Does}
 
 module _ (n : ℕ) (d : List ℕ) {p : Product} {rs : List Rule} where
   -- a rule of the deck stands in the buffer where it stands in the deck
-  pub here-in : {k : ℕ} (h : Here p (take n d) rs k) → Stands d (startOf rs k) p k (h .r)
-  unfolding Stands
+  pub here-in : {k : ℕ} (h : Here p (take n d) rs k) → Held (rule p k) d (startOf rs k) (h .r)
   here-in {k} h =
-      let L = rules (k + 1) (h .later) in
+      let L = rules (k + 1) (h .later) ++ drop n d in
       let P = before (length rs) (take k rs) in
-      let w : d ≡ P ++ (front (h .r) ++ (back k (h .r .elements) ++ (L ++ drop n d))) = sym (take-append-drop n d) ∙ ap (λ (z : List ℕ). z ++ drop n d) (h .is) ∙ simp append-assoc in
-      (h .fits, (L ++ drop n d, ap (drop (startOf rs k)) w ∙ drop-at P _ (startOf rs k) (h .starts)))
+      let w : d ≡ P ++ (rule p k .write (h .r) ++ L) = sym (take-append-drop n d) ∙ ap (λ (z : List ℕ). z ++ drop n d) (h .is) ∙ rw (rule-is p k (h .r)) (simp append-assoc) in
+      (L, record { fit = h .fits; is = ap (drop (startOf rs k)) w ∙ drop-at P _ (startOf rs k) (h .starts) })
 
   -- n is its length, and it is of at most 256 rules
   pub sound-length : n ≤ length d → Sound p (take n d) rs → length (written rs) ≡ n

@@ -47,9 +47,9 @@ Finds p s k f v = (rs : List Rule) (t : List ℕ) → Row (rule p) s 0 7 rs t �
 
 -- it is told of the rule where the code went
 pub finds : {W : Type 0} (p : Product) (s : List ℕ) (k at : ℕ) (f : ℕ → Rule → W) (v : W) → Skipped (rule p) s 7 k k at → Where (rule p k) s at (f at) v → Finds p s k f v
-unfolding Finds Where
+unfolding Finds Skipped Where
 finds p s k at f v w g rs t row l r ys e =
-    let n = nth (rule p) s 7 k at rs t w row l in
+    let n = nth (rule p) s 7 k at rs t (w rs t row (omega arith)) row l in
     let z : r ≡ n .x = let y : r ∷ ys ≡ n .x ∷ n .ys = sym e ∙ n .whole in cc in
     rw (← n .starts, z) (g (n .x) (n .tail, n .stands))
 

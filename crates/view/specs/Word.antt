@@ -59,9 +59,9 @@ unfoldable pub Words : List ℕ → ℕ → ℕ → View → Type 0
 Words s at w v = (ws : List (List ℕ)) (t : List ℕ) → Row (λ i. word) s 0 at ws t → w < length ws → v ≡ wordAt (startIn (λ i. word) at ws w) (drop w ws)
 
 pub word-is : (s : List ℕ) (at w q : ℕ) (v : View) {r : Read} → Skipped (λ i. word) s at w w q → r ≡ seen length word s q → Units (length s) r v → Words s at w v
-unfolding Words
+unfolding Words Skipped
 word-is s at w q v {r} k e h ws t row l =
-    let n = nth (λ i. word) s at w q ws t k row l in
+    let n = nth (λ i. word) s at w q ws t (k ws t row (omega arith)) row l in
     let us = n .x in
     let m = word-length us in
     let o : q + length (word .write us) ≡ q + 4 + length (string .write us) = omega arith in
@@ -234,9 +234,9 @@ module _ (p : Product) (s : List ℕ) (at k e w : ℕ) {c : Read} (i : Elements 
         ap (elementWord e w (startIn (placed p) (elementsAt p k at x) (x .elements) e)) (sym d)
 
     pub rule-is : (v : View) (o : ℕ) → e < n → Skipped (placed p) s q e e o → WordOf p s o e w v → Where (rule p k) s at (ruleWord k e w p at) v
-    unfolding Where WordOf
+    unfolding Where WordOf Skipped
     rule-is v o l g m x b =
         let t = counted-as x b in
         let row = rule-elements p k s at x (b .0) (b .1) in
-        let y = nth (placed p) s (elementsAt p k at x) e o (x .elements) (b .0) (rw (t .1) at g) row (omega (arith, t .0)) in
+        let y = nth (placed p) s (elementsAt p k at x) e o (x .elements) (b .0) ((rw (t .1) at g) (x .elements) (b .0) row (omega (arith, t .0))) row (omega (arith, t .0)) in
         m (y .x) (y .tail, y .stands) ∙ ap (λ (a : ℕ). dataWord w (dataAt e a) (y .x .1)) (y .starts) ∙ ap (elementWord e w (startIn (placed p) (elementsAt p k at x) (x .elements) e)) (sym (y .whole))
