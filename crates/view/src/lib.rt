@@ -15,27 +15,10 @@ ghost use Rattle.format.specs.Back.{Where};
 ghost use Rattle.text.specs.Text.{word};
 ghost use Rattle.element.specs.Data.{wordData, dataOf};
 ghost use Rattle.rule.specs.Rule.{rule, placed as inRule};
-ghost use Rattle.view.specs.Asked.{Finds};
+ghost use Rattle.view.specs.Asked.{Finds, Tells};
 ghost use Rattle.view.specs.Fixed.{Number, fixedAt, fixedFields};
 ghost use Rattle.view.specs.Word.{Words, Identifies, WordOf, Counts, Elements, dataWord, ruleWord, wordView};
 ghost use Rattle.view.specs.View.{Units, Inside, nameAt, nameView, shown, placed};
-
-// Where rule k of a sound deck starts.
-fn start_of(s: &[u8], product: Product, k: u64) -> usize
-    ensures { λ r. ⌜ Skipped (rule product) (now (s .entry)) 7 k k r ⌝ }
-{
-    let mut i = 0;
-    let mut p = 7;
-    while i < k {
-        let r = rule::rule_at(s, p, product, i);
-        let Read::Got(_, q) = r else {
-            return 0;
-        };
-        p = q;
-        i += 1;
-    }
-    p
-}
 
 // What a view answers: its first byte and how many bytes it is; or a fault with its place.
 pub enum View {
@@ -61,10 +44,10 @@ fn units_of(s: &[u8], t: Read) -> View
 }
 
 // The name of rule k of a sound deck.
-fn name_at(s: &[u8], product: Product, k: u64) -> View
-    ensures { λ v. ⌜ Finds product (now (s .entry)) k nameAt v × Inside v (length (now (s .entry))) ⌝ }
+fn name_at(s: &[u8], k: u64) -> View
+    ensures { λ v. ⌜ Tells (now (s .entry)) k nameAt v × Inside v (length (now (s .entry))) ⌝ }
 {
-    let at = start_of(s, product, k);
+    let at = locate::start_of(s, k);
     if wire::left(s, at) < 4 {
         return View::No(Fault::Cut, at);
     }
@@ -76,10 +59,6 @@ fn name_at(s: &[u8], product: Product, k: u64) -> View
 pub fn find_name(edition: u64, s: &[u8], k: u64) -> View
     ensures { λ v. ⌜ (v ≡ nameView edition k (now (s .entry))) × Inside v (length (now (s .entry))) ⌝ }
 {
-    let e = kind::edition_of(edition);
-    let Edition::Of(product) = e else {
-        return View::No(Fault::Edition, 0);
-    };
     let c = deck::pass(edition, s);
     match c {
         Scan::No(d, p) => View::No(d, p),
@@ -87,7 +66,7 @@ pub fn find_name(edition: u64, s: &[u8], k: u64) -> View
             if n <= k {
                 return View::No(Fault::Absent, 0);
             }
-            name_at(s, product, k)
+            name_at(s, k)
         }
     }
 }
@@ -281,7 +260,7 @@ fn rule_word(s: &[u8], at: usize, product: Product, k: u64, e: u64, w: u64) -> V
 fn word_of(s: &[u8], product: Product, k: u64, e: u64, w: u64) -> View
     ensures { λ v. ⌜ Finds product (now (s .entry)) k (ruleWord k e w product) v × Inside v (length (now (s .entry))) ⌝ }
 {
-    let at = start_of(s, product, k);
+    let at = locate::start_of(s, k);
     rule_word(s, at, product, k, e, w)
 }
 
@@ -339,17 +318,11 @@ fn number_at(s: &[u8], at: usize) -> u32
 }
 
 // The fixed fields of rule k of a sound deck.
-fn fields_at(s: &[u8], product: Product, k: u64) -> Fielded
-    ensures { λ v. ⌜ Finds product (now (s .entry)) k fixedAt v ⌝ }
+fn fields_at(s: &[u8], k: u64) -> Fielded
+    ensures { λ v. ⌜ Tells (now (s .entry)) k fixedAt v ⌝ }
 {
-    let at = start_of(s, product, k);
-    if wire::left(s, at) < 4 {
-        return Fielded::No(Fault::Cut, at);
-    }
-    let t = text::string_at(s, at + 4);
-    let Read::Got(_, e) = t else {
-        return Fielded::No(Fault::Cut, at);
-    };
+    let at = locate::start_of(s, k);
+    let e = locate::name_end(s, at);
     if wire::left(s, e) < 20 {
         return Fielded::No(Fault::Cut, at);
     }
@@ -367,10 +340,6 @@ fn fields_at(s: &[u8], product: Product, k: u64) -> Fielded
 pub fn fixed(edition: u64, s: &[u8], k: u64) -> Fielded
     ensures { λ v. ⌜ v ≡ fixedFields edition k (now (s .entry)) ⌝ }
 {
-    let e = kind::edition_of(edition);
-    let Edition::Of(product) = e else {
-        return Fielded::No(Fault::Edition, 0);
-    };
     let c = deck::pass(edition, s);
     match c {
         Scan::No(d, p) => Fielded::No(d, p),
@@ -378,7 +347,7 @@ pub fn fixed(edition: u64, s: &[u8], k: u64) -> Fielded
             if n <= k {
                 return Fielded::No(Fault::Absent, 0);
             }
-            fields_at(s, product, k)
+            fields_at(s, k)
         }
     }
 }
