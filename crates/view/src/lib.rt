@@ -14,10 +14,11 @@ ghost use Rattle.format.specs.Skip.{Skipped};
 ghost use Rattle.format.specs.Back.{Where};
 ghost use Rattle.text.specs.Text.{word};
 ghost use Rattle.element.specs.Data.{wordData, dataOf};
-ghost use Rattle.rule.specs.Rule.{rule, placed as inRule};
+ghost use Rattle.rule.specs.Rule.{rule};
+ghost use Rattle.walk.specs.Elements.{Carries};
 ghost use Rattle.view.specs.Asked.{Finds, Tells};
 ghost use Rattle.view.specs.Fixed.{Number, fixedAt, fixedFields};
-ghost use Rattle.view.specs.Word.{Words, Identifies, WordOf, Counts, Elements, dataWord, ruleWord, wordView};
+ghost use Rattle.view.specs.Word.{Words, dataWord, ruleWord, wordView};
 ghost use Rattle.view.specs.View.{Units, Inside, nameAt, nameView, shown, placed};
 
 // What a view answers: its first byte and how many bytes it is; or a fault with its place.
@@ -164,24 +165,11 @@ fn data_word(s: &[u8], at: usize, kind: Kind, w: u64) -> View
     }
 }
 
-// The identifier of the element at place j of its rule, behind its 8001; it ends where its data start.
-fn identifier_at(s: &[u8], at: usize, j: u64) -> Read
-    ensures { λ r. ⌜ Identifies (now (s .entry)) at j r ⌝ }
-{
-    if j == 0 {
-        return wire::u32_at(s, at);
-    }
-    if wire::left(s, at) < 2 {
-        return Read::No(Fault::Cut, at);
-    }
-    wire::u32_at(s, at + 2)
-}
-
 // Word w of the element at place e of its rule.
 fn element_word(s: &[u8], at: usize, product: Product, e: u64, w: u64) -> View
-    ensures { λ v. ⌜ WordOf product (now (s .entry)) at e w v × Inside v (length (now (s .entry))) ⌝ }
+    ensures { λ v. ⌜ Carries product (now (s .entry)) at e (dataWord w) v × Inside v (length (now (s .entry))) ⌝ }
 {
-    let r = identifier_at(s, at, e);
+    let r = walk::identifier_at(s, at, e);
     let Read::Got(id, q) = r else {
         return View::No(Fault::Cut, at);
     };
@@ -192,67 +180,18 @@ fn element_word(s: &[u8], at: usize, product: Product, e: u64, w: u64) -> View
     data_word(s, q, kind, w)
 }
 
-// Where element e of a row of elements starts.
-fn element_start(s: &[u8], at: usize, product: Product, e: u64) -> usize
-    ensures { λ r. ⌜ Skipped (inRule product) (now (s .entry)) at e e r ⌝ }
-{
-    let mut j = 0;
-    let mut p = at;
-    while j < e {
-        let r = rule::placed_at(s, p, product, j);
-        let Read::Got(_, q) = r else {
-            return 0;
-        };
-        p = q;
-        j += 1;
-    }
-    p
-}
-
-// The number of elements of rule i, and where they start behind its head.
-fn counted_at(s: &[u8], at: usize, i: u64) -> Read
-    ensures { λ r. ⌜ Counts (now (s .entry)) at i r ⌝ }
-{
-    let c = wire::u16_at(s, at);
-    let Read::Got(n, p) = c else {
-        return c;
-    };
-    let h = rule::head_at(s, p, i);
-    let Read::Got(_, q) = h else {
-        return h;
-    };
-    Read::Got(n, q)
-}
-
-// The same, from the start of rule i.
-fn elements_of(s: &[u8], at: usize, i: u64) -> Read
-    ensures { λ r. ⌜ Elements (now (s .entry)) at i r ⌝ }
-{
-    if wire::left(s, at) < 4 {
-        return Read::No(Fault::Cut, at);
-    }
-    let t = text::string_at(s, at + 4);
-    let Read::Got(_, e) = t else {
-        return t;
-    };
-    if wire::left(s, e) < 24 {
-        return Read::No(Fault::Cut, at);
-    }
-    counted_at(s, e + 24, i)
-}
-
 // Word w of element e of rule k, which starts at a place.
 fn rule_word(s: &[u8], at: usize, product: Product, k: u64, e: u64, w: u64) -> View
     ensures { λ v. ⌜ Where (rule product k) (now (s .entry)) at (ruleWord k e w product at) v × Inside v (length (now (s .entry))) ⌝ }
 {
-    let c = elements_of(s, at, k);
+    let c = walk::elements_of(s, at, k);
     let Read::Got(n, p) = c else {
         return View::No(Fault::Cut, at);
     };
     if n <= e {
         return View::No(Fault::Absent, 1);
     }
-    let q = element_start(s, p, product, e);
+    let q = walk::element_start(s, p, product, e);
     element_word(s, q, product, e, w)
 }
 

@@ -2,8 +2,8 @@ use Prim.Native.Nat.{_-_, _≤_}
 use Rattle.format.specs.Skip.{Skipped, skip-start, skip-go, skip-stop, skip-end}
 use Rattle.rule.specs.Rule.{placed}
 use borrow.Author.Needs.{needs}
-use Rattle.view.proofs.element_start.Statement.{statement}
-use Rattle.view.proofs.element_start.Tie as tie
+use Rattle.walk.proofs.element_start.Statement.{statement}
+use Rattle.walk.proofs.element_start.Tie as tie
 
 abbrev Inv-loop : tie.InvT-loop
 Inv-loop s at product e j₀ p₀ j p = Skipped (placed product) s at e j p × (j ≤ e)
