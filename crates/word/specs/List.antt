@@ -4,8 +4,9 @@ use native.Mathlib.Omega.{arith}
 use mathlib.Core.Path.{_≡_, refl, sym, ap, _∙_}
 use mathlib.Core.Bool.{Bool, true, false}
 use mathlib.Core.List.{List, [], _∷_, _++_, append-assoc}
-use lib.ListN.{length, take, drop, length-append, length-drop}
+use lib.ListN.{length, take, drop, length-append, drop-of-length-le}
 use lib.Dec.{eqb}
+use lib.Seq.{drop-drop}
 use Rattle.format.specs.declared.Fault.{Fault}
 use Rattle.format.specs.declared.Fault.the-variants as Fault
 use Rattle.format.specs.declared.Read.{Read}
@@ -17,11 +18,12 @@ use Rattle.format.specs.Each.{each, eachWrite, counted, listed}
 use Rattle.format.specs.Seen.{seen, itself, unlike}
 use Rattle.format.specs.Written.{Held}
 use Rattle.format.specs.Back.{Where, back-got, back-no}
-use Rattle.format.specs.Skip.{startIn, Skipped, Nth, nth}
+use Rattle.format.specs.Skip.{startIn, Skipped, nth}
 use Rattle.text.specs.Text.{string, word}
 use Rattle.kind.specs.declared.Product.{Product}
 use Rattle.kind.specs.declared.Kind.{Kind}
 use Rattle.kind.specs.declared.Kind.the-variants as Kind
+use Rattle.kind.specs.declared.Role.the-variants as Role
 use Rattle.kind.specs.declared.Row.{Row}
 use Rattle.kind.specs.declared.Row.the-variants as Row
 use Rattle.kind.specs.Kinds.{kinds, rowIn}
@@ -120,54 +122,35 @@ pub record Listed (k e : ℕ) (els : List Element) (c t : ℕ) : Type 0 where
   pub many : c ≡ length ws
   pub place : e + 26 + length (headBytes k) + length (inner (take (length els - 1) els) ++ leading (length els - 1) id) ≡ t
 
--- only a list's data are words
-words-row : (r : Row) (ws : List (List ℕ)) → dataBy r .Fit (words ws) → r ≡ Row.Is Kind.WordList
-unfolding markerData simpleData sizeData dateData via
-words-row (Row.Is Kind.Marker) ws f = absurd (let z : _≡_ {A = ℕ} 0 1 = cc in omega arith)
-words-row (Row.Is (Kind.Simple r)) ws f = absurd (let g = f .1 in let z : _≡_ {A = ℕ} 0 1 = cc in omega arith)
-words-row (Row.Is Kind.WordList) ws f = refl
-words-row (Row.Is (Kind.Size r)) ws f = absurd (let g = f .1 in let z : _≡_ {A = ℕ} 0 1 = cc in omega arith)
-words-row (Row.Is (Kind.Dates r)) ws f = absurd (let g = f .1 in let z : _≡_ {A = ℕ} 0 1 = cc in omega arith)
-words-row (Row.No c q) ws f = absurd (let g = f .1 in let z : _≡_ {A = ℕ} 0 1 = cc in omega arith)
+-- data that tell of words are a list's
+words-are : (at : ℕ) (r : Row) (x : Data) {c t : ℕ} → dataBy r .Fit x → listOf at x ≡ Got c t → (r ≡ Row.Is Kind.WordList) × ((x ≡ words (wordsOf x)) × ((c ≡ length (wordsOf x)) × (t ≡ at)))
+unfolding wordData via
+words-are at (Row.Is Kind.Marker) x f h = unlike h (sym (other-is at Kind.Marker x f tt))
+words-are at (Row.Is (Kind.Simple r)) x f h = unlike h (sym (other-is at (Kind.Simple r) x f tt))
+words-are at (Row.Is Kind.WordList) x {c} {t} f h = let z : Got c t ≡ Got (length (wordsOf x)) at = sym h ∙ sym (ap (listOf at) (f .1)) in (refl, (sym (f .1), ((cc), (cc))))
+words-are at (Row.Is (Kind.Size r)) x f h = unlike h (sym (other-is at (Kind.Size r) x f tt))
+words-are at (Row.Is (Kind.Dates r)) x f h = unlike h (sym (other-is at (Kind.Dates r) x f tt))
+words-are at (Row.No c q) x f h = unlike h (sym (other-is at (Kind.Simple Role.Condition) x f tt))
 
-words-are : (at : ℕ) (d : Data) {c t : ℕ} → listOf at d ≡ Got c t → (d ≡ words (wordsOf d)) × ((c ≡ length (wordsOf d)) × (t ≡ at))
-words-are at plain h = unlike h refl
-words-are at (words ws) h = (refl, ((cc), (cc)))
-words-are at (sizes a b) h = unlike h refl
-words-are at (span a b) h = unlike h refl
-
-none-left : (ys : List Element) → length ys ≡ 0 → ys ≡ []
-none-left [] l = refl
-none-left (y ∷ ys) l = absurd (omega arith)
-
-module _ (p : Product) (s : List ℕ) (at k e : ℕ) (x : Rule) (b : Held (rule p k) s at x) where
-  -- the place of the last element, and where it starts
-  abbrev j : ℕ
-  j = length (x .elements) - 1
-
-  abbrev a : ℕ
-  a = startIn (placed p) (elementsAt p k at x) (x .elements) j
-
-  listed-at : {c t : ℕ} → Nth (placed p) s (elementsAt p k at x) j a (x .elements) → e ≡ at + 4 + length (string .write (x .name)) → lastList p k at x ≡ Got c t → Listed k e (x .elements) c t
-  unfolding startIn headBytes
-  listed-at y ee h =
-      let els = x .elements in
-      let id = y .x .0 in
-      let ws = wordsOf (y .x .1) in
-      let w = words-are (dataAt j a) (y .x .1) (sym (ap (ofFirst (No Fault.Last 0) listOf j a) (y .whole)) ∙ h) in
-      let fit : dataBy (rowIn kinds id) .Fit (words ws) = rw (w .0) at (placed-parts p j s a (y .x) (y .tail) (y .stands) .carries .fit) in
-      let nil : y .ys ≡ [] = none-left (y .ys) (omega (arith, length-drop j els, ap length (y .whole), rule-fits p k x (b .1 .fit) .0)) in
-      record {
-        id = id;
-        ws = ws;
-        is = y .whole ∙ ap (λ (ys : List Element). y .x ∷ ys) nil ∙ ap (λ (d : Data). (id, d) ∷ []) (w .0);
-        row = words-row (rowIn kinds id) ws fit;
-        many = w .1 .0;
-        place = omega (arith, w .1 .1, ee, rule-parts p k s at x (b .0) (b .1) .begins, ap length (inner-as p (take j els)), length-append (inner (take j els)) (leading j id), leading-long j id);
-      }
-
-  pub listed-is : {c t : ℕ} → e ≡ at + 4 + length (string .write (x .name)) → lastList p k at x ≡ Got c t → Listed k e (x .elements) c t
-  listed-is = listed-at (nth (placed p) s (elementsAt p k at x) j a (x .elements) (b .0) refl (rule-elements p k s at x (b .0) (b .1)) (omega (arith, rule-fits p k x (b .1 .fit) .0)))
+pub listed-is : (p : Product) (s : List ℕ) (at k e : ℕ) (x : Rule) {c t : ℕ} → Held (rule p k) s at x → e ≡ at + 4 + length (string .write (x .name)) → lastList p k at x ≡ Got c t → Listed k e (x .elements) c t
+unfolding startIn headBytes
+listed-is p s at k e x b ee h =
+    let els = x .elements in
+    let j = length els - 1 in
+    let a = startIn (placed p) (elementsAt p k at x) els j in
+    let l = rule-fits p k x (b .1 .fit) .0 in
+    let y = nth (placed p) s (elementsAt p k at x) j a els (b .0) refl (rule-elements p k s at x (b .0) (b .1)) (omega arith) in
+    let id = y .x .0 in
+    let w = words-are (dataAt j a) (rowIn kinds id) (y .x .1) (placed-parts p j s a (y .x) (y .tail) (y .stands) .carries .fit) (sym (ap (ofFirst (No Fault.Last 0) listOf j a) (y .whole)) ∙ h) in
+    let nil : y .ys ≡ [] = sym (ap (drop 1) (y .whole)) ∙ drop-drop 1 j els ∙ drop-of-length-le els {i = j + 1} (omega arith) in
+    record {
+      id = id;
+      ws = wordsOf (y .x .1);
+      is = y .whole ∙ ap (λ (ys : List Element). y .x ∷ ys) nil ∙ ap (λ (d : Data). (id, d) ∷ []) (w .1 .0);
+      row = w .0;
+      many = w .1 .1 .0;
+      place = omega (arith, w .1 .1 .1, ee, rule-parts p k s at x (b .0) (b .1) .begins, ap length (inner-as p (take j els)), length-append (inner (take j els)) (leading j id), leading-long j id);
+    }
 
 -- other elements are none
 pub list-none : (j at : ℕ) (xs : List Element) {c : Fault} {q : ℕ} → ofFirst (No Fault.Last 0) listOf j at xs ≡ No c q → (g : ℕ → List (List ℕ) → Plan) → atList xs g ≡ refuse Fault.Last 0
