@@ -34,7 +34,7 @@ pub rules-cons : (i : ℕ) (r : Rule) (rs : List Rule) → rules i (r ∷ rs) �
 unfolding rules eachWrite
 rules-cons i r rs = rw (rule-is Studio i r, append-assoc)
 
-pub rules-append : (i : ℕ) (xs ys : List Rule) → rules i (xs ++ ys) ≡ rules i xs ++ rules (i + length xs) ys
+rules-append : (i : ℕ) (xs ys : List Rule) → rules i (xs ++ ys) ≡ rules i xs ++ rules (i + length xs) ys
 unfolding rules
 rules-append i xs ys = each-append (rule Studio) i xs ys
 

@@ -56,7 +56,7 @@ pub record Here (p : Product) (s : List ℕ) (rs : List Rule) (k : ℕ) : Type 0
   pub ends : startOf rs (k + 1) ≡ startOf rs k + (length (front r) + length (back k (r .elements)))
 
 -- its rules stand behind its header
-pub sound-row : (p : Product) (s : List ℕ) (rs : List Rule) → Sound p s rs → Row (rule p) s 0 7 rs []
+sound-row : (p : Product) (s : List ℕ) (rs : List Rule) → Sound p s rs → Row (rule p) s 0 7 rs []
 sound-row p s rs o = deck-row p s rs (o .fit) (o .is ∙ sym (written-as p rs))
 
 pub here : (p : Product) (s : List ℕ) (rs : List Rule) (k : ℕ) → Sound p s rs → k < length rs → Here p s rs k
