@@ -16,12 +16,11 @@ use Rattle.format.specs.Skip.{startIn, Skipped, nth}
 use Rattle.text.specs.Text.{stringLength, string, word, word-length}
 use Rattle.kind.specs.declared.Product.{Product}
 use Rattle.kind.specs.declared.Kind.{Kind}
-use Rattle.kind.specs.declared.Kind.the-variants as Kind
 use Rattle.element.specs.Data.{Data, wordsOf, wordData, dataOf, Other, words-none, list-parts}
 use Rattle.element.specs.Element.{Element}
 use Rattle.rule.specs.Rule.{Rule, rule, placed}
 use Rattle.rule.specs.Places.{elementsAt}
-use Rattle.walk.specs.Elements.{Elements, ofFirst, ofElement, Carries, elements-none, elements-are, element-is}
+use Rattle.walk.specs.Elements.{Elements, ofFirst, ofElement, Carries, elements-none, elements-are, of-element}
 use Rattle.view.specs.Asked.{asked}
 use Rattle.view.specs.View.{Units, units-of}
 use Rattle.view.specs.declared.View.{View}
@@ -84,17 +83,12 @@ module _ (s : List ℕ) (at w : ℕ) {c : Read} (e : c ≡ seen itself (number 4
         let z : q ≡ at + 4 = g .1 ∙ ap (λ (m : ℕ). at + m) (length-spelt 4 (length (wordsOf x))) in
         (rw z at k) (wordsOf x) (b .0) (p .1) (omega (arith, g .0))
 
-module _ (k : Kind) (s : List ℕ) (at w : ℕ) where
-  pub data-list : (v : View) → k ≡ Kind.WordList → Where wordData s at (dataWord w at) v → Where (dataOf k) s at (dataWord w at) v
-  data-list v e h = rw e h
-
-  pub data-other : (j : Kind) → k ≡ j → Other j → Where (dataOf k) s at (dataWord w at) (No Fault.Absent 2)
-  unfolding Where
-  data-other j e o x b =
-      let f : dataOf j .Fit x = rw e at (b .1 .fit) in
-      let n : wordsOf x ≡ [] = words-none j x f o in
-      let d : drop w (wordsOf x) ≡ [] = drop-of-length-le (wordsOf x) {i = w} (omega (arith, ap length n)) in
-      ap (wordAt (startIn (λ i. word) (at + 4) (wordsOf x) w)) (sym d)
+pub data-other : (k : Kind) (s : List ℕ) (at w : ℕ) → Other k → Where (dataOf k) s at (dataWord w at) (No Fault.Absent 2)
+unfolding Where
+data-other k s at w o x b =
+    let n : wordsOf x ≡ [] = words-none k x (b .1 .fit) o in
+    let d : drop w (wordsOf x) ≡ [] = drop-of-length-le (wordsOf x) {i = w} (omega (arith, ap length n)) in
+    ap (wordAt (startIn (λ i. word) (at + 4) (wordsOf x) w)) (sym d)
 
 -- ---- a word of a rule
 module _ (p : Product) (s : List ℕ) (at k e w : ℕ) {c : Read} (i : Elements s at k c) where
@@ -111,4 +105,4 @@ module _ (p : Product) (s : List ℕ) (at k e w : ℕ) {c : Read} (i : Elements 
 
     pub rule-is : (v : View) (o : ℕ) → e < n → Skipped (placed p) s q e e o → Carries p s o e (dataWord w) v → Where (rule p k) s at (ruleWord k e w p at) v
     unfolding Where
-    rule-is v o l g m x b = element-is p s at k x b i h (No Fault.Absent 1) (dataWord w) e o v l g m
+    rule-is v o l g m x b = of-element p s at k x b i h (No Fault.Absent 1) (dataWord w) e o v l g m

@@ -101,6 +101,10 @@ module _ {W : Type 0} (absent : W) (f : ℕ → Data → W) where
   abbrev pub ofElement : Product → ℕ → ℕ → ℕ → Rule → W
   ofElement p k e at r = ofFirst e (startIn (placed p) (elementsAt p k at r) (r .elements) e) (drop e (r .elements))
 
+-- of data of the kind that a match found
+pub of-kind : {W : Type 0} (k j : Kind) (s : List ℕ) (at : ℕ) (f : Data → W) (v : W) → k ≡ j → Where (dataOf j) s at f v → Where (dataOf k) s at f v
+of-kind k j s at f v e h = rw e h
+
 -- whatever element stands at a place, the one at place j of its rule, v is f of its data
 unfoldable pub Carries : {W : Type 0} → Product → List ℕ → ℕ → ℕ → (ℕ → Data → W) → W → Type 0
 Carries p s at j f v = Where (placed p j) s at (λ x. f (dataAt j at) (x .1)) v
@@ -144,9 +148,9 @@ module _ (p : Product) (s : List ℕ) (at k : ℕ) (x : Rule) (b : Held (rule p 
     elements-are = let z : Got n q ≡ Got (elementsIn x) (elementsAt p k at x) = sym h ∙ i p x b in ((cc), (cc))
 
     -- element e stands where the code went
-    pub element-is : {W : Type 0} (absent : W) (f : ℕ → Data → W) (e o : ℕ) (v : W) → e < n → Skipped (placed p) s q e e o → Carries p s o e f v → v ≡ ofElement absent f p k e at x
+    pub of-element : {W : Type 0} (absent : W) (f : ℕ → Data → W) (e o : ℕ) (v : W) → e < n → Skipped (placed p) s q e e o → Carries p s o e f v → v ≡ ofElement absent f p k e at x
     unfolding Skipped Carries Where
-    element-is absent f e o v l g m =
+    of-element absent f e o v l g m =
         let t = elements-are in
         let row = rule-elements p k s at x (b .0) (b .1) in
         let y = nth (placed p) s (elementsAt p k at x) e o (x .elements) (b .0) ((rw (t .1) at g) (x .elements) (b .0) row (omega (arith, t .0))) row (omega (arith, t .0)) in

@@ -32,7 +32,7 @@ use Rattle.element.specs.Element.{Element, element, identifier, dataBy}
 use Rattle.rule.specs.Rule.{Rule, rule, separator, placed, rule-fits}
 use Rattle.rule.specs.Parts.{headBytes, inner, inner-as}
 use Rattle.rule.specs.Places.{elementsAt, dataAt, rule-parts, rule-elements, placed-parts}
-use Rattle.walk.specs.Elements.{Elements, ofFirst, ofElement, Carries, elements-none, elements-are, element-is}
+use Rattle.walk.specs.Elements.{Elements, ofFirst, ofElement, Carries, elements-none, elements-are, of-element}
 use Rattle.plan.specs.Edit.{Plan, refuse, atList}
 
 -- the number of words of a list whose data start at a place, and where it stands; other data are no list
@@ -65,29 +65,25 @@ other-is at Kind.WordList x f o = absurd o
 other-is at (Kind.Size r) x f o = ap (listOf at) (f .1)
 other-is at (Kind.Dates r) x f o = ap (listOf at) (f .1)
 
-module _ (k : Kind) (s : List ℕ) (at : ℕ) where
-  pub kind-list : (r : Read) → k ≡ Kind.WordList → Where wordData s at (listOf at) r → Where (dataOf k) s at (listOf at) r
-  kind-list r e h = rw e h
-
-  pub kind-other : (j : Kind) → k ≡ j → Other j → Where (dataOf k) s at (listOf at) (No Fault.Last 0)
-  unfolding Where
-  kind-other j e o x b = other-is at j x (rw e at (b .1 .fit)) o
+pub list-other : (k : Kind) (s : List ℕ) (at : ℕ) → Other k → Where (dataOf k) s at (listOf at) (No Fault.Last 0)
+unfolding Where
+list-other k s at o x b = other-is at k x (b .1 .fit) o
 
 module _ (p : Product) (s : List ℕ) (at k : ℕ) (r : Read) {c : Read} (i : Elements s at k c) where
-  pub last-cut : {f : Fault} {q : ℕ} → c ≡ No f q → Where (rule p k) s at (lastList p k at) r
+  pub last-list-cut : {f : Fault} {q : ℕ} → c ≡ No f q → Where (rule p k) s at (lastList p k at) r
   unfolding Where
-  last-cut h x b = elements-none p s at k x b i h
+  last-list-cut h x b = elements-none p s at k x b i h
 
   module _ {n q : ℕ} (h : c ≡ Got n q) where
     -- never, of a rule
-    pub last-none : n ≡ 0 → Where (rule p k) s at (lastList p k at) r
+    pub last-list-none : n ≡ 0 → Where (rule p k) s at (lastList p k at) r
     unfolding Where
-    last-none e x b = absurd (omega (arith, elements-are p s at k x b i h .0, rule-fits p k x (b .1 .fit) .0))
+    last-list-none e x b = absurd (omega (arith, elements-are p s at k x b i h .0, rule-fits p k x (b .1 .fit) .0))
 
-    pub last-is : (o : ℕ) → (n ≡ 0 → ⊥) → Skipped (placed p) s q (n - 1) (n - 1) o → Carries p s o (n - 1) listOf r → Where (rule p k) s at (lastList p k at) r
+    pub last-list-is : (o : ℕ) → (n ≡ 0 → ⊥) → Skipped (placed p) s q (n - 1) (n - 1) o → Carries p s o (n - 1) listOf r → Where (rule p k) s at (lastList p k at) r
     unfolding Where
-    last-is o e g m x b =
-        element-is p s at k x b i h (No Fault.Last 0) listOf (n - 1) o r (omega arith) g m
+    last-list-is o e g m x b =
+        of-element p s at k x b i h (No Fault.Last 0) listOf (n - 1) o r (omega arith) g m
         ∙ ap (λ (l : ℕ). ofElement (No Fault.Last 0) listOf p k (l - 1) at x) (elements-are p s at k x b i h .0)
 
 -- ---- what it tells of the rule's elements
@@ -114,7 +110,7 @@ list-written p j id ws e = go (eqb j 0)
     go false = rw e (simp append-assoc)
 
 -- in rule k, whose name ends at e and which has these elements, the last of them is a list of c words, whose number stands at t
-pub record Listed (k e : ℕ) (els : List Element) (c t : ℕ) : Type 0 where
+pub record EndsInList (k e : ℕ) (els : List Element) (c t : ℕ) : Type 0 where
   pub id : ℕ
   pub ws : List (List ℕ)
   pub is : drop (length els - 1) els ≡ (id, words ws) ∷ []
@@ -132,9 +128,9 @@ words-are at (Row.Is (Kind.Size r)) x f h = unlike h (sym (other-is at (Kind.Siz
 words-are at (Row.Is (Kind.Dates r)) x f h = unlike h (sym (other-is at (Kind.Dates r) x f tt))
 words-are at (Row.No c q) x f h = unlike h (sym (other-is at (Kind.Simple Role.Condition) x f tt))
 
-pub listed-is : (p : Product) (s : List ℕ) (at k e : ℕ) (x : Rule) {c t : ℕ} → Held (rule p k) s at x → e ≡ at + 4 + length (string .write (x .name)) → lastList p k at x ≡ Got c t → Listed k e (x .elements) c t
+pub ends-in-list : (p : Product) (s : List ℕ) (at k e : ℕ) (x : Rule) {c t : ℕ} → Held (rule p k) s at x → e ≡ at + 4 + length (string .write (x .name)) → lastList p k at x ≡ Got c t → EndsInList k e (x .elements) c t
 unfolding startIn headBytes
-listed-is p s at k e x b ee h =
+ends-in-list p s at k e x b ee h =
     let els = x .elements in
     let j = length els - 1 in
     let a = startIn (placed p) (elementsAt p k at x) els j in

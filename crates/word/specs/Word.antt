@@ -39,7 +39,7 @@ use Rattle.plan.specs.Makes.{here-in, sound-small, replaced-long, written-here,
 use Rattle.parts.specs.Text.{textBytes, textSize, text-size, text-is}
 use Rattle.add.specs.Element.{rules-none, last-rule, last-is, front-ends, size-ends, inner-more, at-last, no-last, full, not-full}
 use Rattle.add.specs.Rule.{no-text, if-text}
-use Rattle.word.specs.List.{lastList, leading, list-written, Listed, listed-is, list-none}
+use Rattle.word.specs.List.{lastList, leading, list-written, EndsInList, ends-in-list, list-none}
 
 -- 4 zero bytes and a String
 unfoldable pub wordBytes : List ℕ → List ℕ
@@ -66,7 +66,7 @@ unfolding eachWrite
 words-more ws s e = each-append (λ i. word) 0 ws (units s ∷ []) ∙ rw (append-nil, word-is s e)
 
 -- the back of the rule, before and after
-module _ (k : ℕ) (els : List Element) (e : ℕ) {c t : ℕ} (o : Listed k e els c t) (l : 0 < length els) where
+module _ (k : ℕ) (els : List Element) (e : ℕ) {c t : ℕ} (o : EndsInList k e els c t) (l : 0 < length els) where
   init-long : length (take (length els - 1) els) ≡ length els - 1
   init-long = length-take-le (length els - 1) els (omega arith)
 
@@ -116,12 +116,12 @@ module _ (k : ℕ) (els : List Element) (e : ℕ) {c t : ℕ} (o : Listed k e el
 -- whatever sound deck is in the first n bytes, its last rule having a name that ends at e and for last element a list of c words, whose number stands at t: the word is added
 unfoldable pub Lengthens : ℕ → ℕ → ℕ → ℕ → List ℕ → List ℕ → Outcome → List ℕ → Type 0
 Lengthens n e t c s d r d′ =
-    (p : Product) (rs : List Rule) (k : ℕ) (h : Here p (take n d) rs k) (o : Listed k e (h .r .elements) c t) → h .later ≡ [] → n ≤ length d → length rs ≤ 256
+    (p : Product) (rs : List Rule) (k : ℕ) (h : Here p (take n d) rs k) (o : EndsInList k e (h .r .elements) c t) → h .later ≡ [] → n ≤ length d → length rs ≤ 256
     → e ≡ startOf rs k + 4 + length (string .write (h .r .name)) → textBytes s ≡ string .write (units s)
     → Does n (become (take k rs ++ (holding (take (length (h .r .elements) - 1) (h .r .elements) ++ ((o .id, words (o .ws ++ (units s ∷ []))) ∷ [])) (h .r) ∷ []))) d r d′
 
 module _ (n e t c : ℕ) (s d : List ℕ) where
-  module _ {p : Product} {rs : List Rule} {k : ℕ} (h : Here p (take n d) rs k) (o : Listed k e (h .r .elements) c t) (z : h .later ≡ []) (w : n ≤ length d) (g : e ≡ startOf rs k + 4 + length (string .write (h .r .name))) (l : 0 < length (h .r .elements)) where
+  module _ {p : Product} {rs : List Rule} {k : ℕ} (h : Here p (take n d) rs k) (o : EndsInList k e (h .r .elements) c t) (z : h .later ≡ []) (w : n ≤ length d) (g : e ≡ startOf rs k + 4 + length (string .write (h .r .name))) (l : 0 < length (h .r .elements)) where
     -- its bytes, Data Size and the number of words being S and C
     abbrev bytesWith : ℕ → ℕ → List ℕ
     bytesWith S C = before (length rs) (take k rs) ++ (front (h .r) ++ (spelt 4 S ++ (spelt 2 (length (h .r .elements)) ++ (headBytes k ++ (upTo k (h .r .elements) e o l ++ (spelt 4 C ++ tail k (h .r .elements) e o l s))))))
@@ -199,7 +199,7 @@ module _ (n e t c : ℕ) (s d : List ℕ) where
 
 -- ---- what is judged before
 
-at-words : {k e : ℕ} {els : List Element} {c t : ℕ} (o : Listed k e els c t) (g : ℕ → List (List ℕ) → Plan) → atList (drop (length els - 1) els) g ≡ g (o .id) (o .ws)
+at-words : {k e : ℕ} {els : List Element} {c t : ℕ} (o : EndsInList k e els c t) (g : ℕ → List (List ℕ) → Plan) → atList (drop (length els - 1) els) g ≡ g (o .id) (o .ws)
 unfolding atList
 at-words o g = rw (o .is)
 
@@ -232,8 +232,8 @@ module _ (p : Product) (n m a : ℕ) (s d : List ℕ) where
     word-no-list k = on-last _ _ l g (λ rs h z w v e′ a′. made-no n d (list-none _ _ _ (sym (last-told h a′) ∙ k) _))
 
     module _ {c t : ℕ} (k : y ≡ Read.Got c t) where
-      is-listed : {rs : List Rule} (h : Here p (take n d) rs (m - 1)) → e ≡ startOf rs (m - 1) + 4 + length (string .write (h .r .name)) → a ≡ startOf rs (m - 1) → Listed (m - 1) e (h .r .elements) c t
-      is-listed {rs} h e′ a′ = listed-is p d (startOf rs (m - 1)) (m - 1) e (h .r) (here-in n d h) e′ (sym (last-told h a′) ∙ k)
+      is-listed : {rs : List Rule} (h : Here p (take n d) rs (m - 1)) → e ≡ startOf rs (m - 1) + 4 + length (string .write (h .r .name)) → a ≡ startOf rs (m - 1) → EndsInList (m - 1) e (h .r .elements) c t
+      is-listed {rs} h e′ a′ = ends-in-list p d (startOf rs (m - 1)) (m - 1) e (h .r) (here-in n d h) e′ (sym (last-told h a′) ∙ k)
 
       pub word-full : 64 ≤ c → MakesAs p lastOf n m a (addWord s) d (Outcome.No Fault.Full 0) d
       word-full f = on-last _ _ l g (λ rs h z w v e′ a′. let o = is-listed h e′ a′ in made-no n d (at-words o _ ∙ full _ _ (rw (o .many) at f)))

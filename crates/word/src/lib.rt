@@ -23,7 +23,7 @@ ghost use Rattle.word.specs.List.{listOf, lastList};
 ghost use Rattle.word.specs.Word.{Lengthens};
 
 // The number of words of the data of a list, and where it stands: at their start.
-fn words_at(s: &[u8], at: usize) -> Read
+fn word_count(s: &[u8], at: usize) -> Read
     ensures { λ r. ⌜ Where wordData (now (s .entry)) at (listOf at) r ⌝ }
 {
     let z = wire::u32_at(s, at);
@@ -38,7 +38,7 @@ fn list_of(s: &[u8], at: usize, kind: Kind) -> Read
     ensures { λ r. ⌜ Where (dataOf kind) (now (s .entry)) at (listOf at) r ⌝ }
 {
     match kind {
-        Kind::WordList => words_at(s, at),
+        Kind::WordList => word_count(s, at),
         Kind::Marker => Read::No(Fault::Last, 0),
         Kind::Simple(_) => Read::No(Fault::Last, 0),
         Kind::Size(_) => Read::No(Fault::Last, 0),

@@ -1,16 +1,16 @@
-use Rattle.word.specs.List.{last-cut, last-is, last-none}
+use Rattle.word.specs.List.{last-list-cut, last-list-is, last-list-none}
 use borrow.Author.Needs.{needs}
 use Rattle.word.proofs.list_at.Statement.{statement}
 use Rattle.word.proofs.list_at.Tie as tie
 
 returns : tie.Need-returns
-returns c = search (needs, last-cut)
+returns c = search (needs, last-list-cut)
 
 returns-2 : tie.Need-returns-2
-returns-2 c = search (needs, last-none)
+returns-2 c = search (needs, last-list-none)
 
 returns-3 : tie.Need-returns-3
-returns-3 c = search (needs, last-is)
+returns-3 c = search (needs, last-list-is)
 
 pub list-at-spec : {M : Type 1} → statement M
 list-at-spec =
