@@ -2,12 +2,13 @@
 use Prim.Native.Nat.{ℕ, _+_, _<_}
 use native.Mathlib.Nat.{zero-add}
 use native.Mathlib.Omega.{arith}
-use mathlib.Core.Path.{_≡_, sym, ap, _∙_}
+use mathlib.Core.Path.{_≡_, refl, sym, ap, _∙_}
 use mathlib.Core.List.{List, _∷_, _++_, append-assoc}
 use lib.ListN.{length, take, length-append}
 use Rattle.format.specs.Join.{pair, pairWrite, seq, _then_, judged, via}
 use Rattle.format.specs.Number.{number, count, fixed, bytes, value, spelt, length-spelt}
 use Rattle.format.specs.Each.{each, eachWrite, each-append, each-alike, counted}
+use Rattle.format.specs.Skip.{startIn}
 use Rattle.kind.specs.declared.Product.{Product}
 use Rattle.kind.specs.declared.Product.the-variants.{Studio}
 use Rattle.rule.specs.Rule.{Rule, rule}
@@ -33,7 +34,7 @@ pub rules-cons : (i : ℕ) (r : Rule) (rs : List Rule) → rules i (r ∷ rs) �
 unfolding rules eachWrite
 rules-cons i r rs = rw (rule-is Studio i r, append-assoc)
 
-pub rules-append : (i : ℕ) (xs ys : List Rule) → rules i (xs ++ ys) ≡ rules i xs ++ rules (i + length xs) ys
+rules-append : (i : ℕ) (xs ys : List Rule) → rules i (xs ++ ys) ≡ rules i xs ++ rules (i + length xs) ys
 unfolding rules
 rules-append i xs ys = each-append (rule Studio) i xs ys
 
@@ -75,4 +76,13 @@ before-long n xs = omega (arith, length-append opening (spelt 2 n ++ rules 0 xs)
 
 -- rule k starts behind the header and the k rules before it
 unfoldable pub startOf : List Rule → ℕ → ℕ
-startOf rs k = 7 + length (rules 0 (take k rs))
+startOf rs k = startIn (rule Studio) 7 rs k
+
+pub start-is : (rs : List Rule) (k : ℕ) → startOf rs k ≡ 7 + length (rules 0 (take k rs))
+unfolding startOf startIn rules
+start-is rs k = refl
+
+-- alike in both editions
+pub start-as : (p : Product) (rs : List Rule) (k : ℕ) → startIn (rule p) 7 rs k ≡ startOf rs k
+unfolding startIn
+start-as p rs k = ap (λ (t : List ℕ). 7 + length t) (rules-as p 0 (take k rs)) ∙ sym (start-is rs k)

@@ -1,13 +1,15 @@
 -- The data of an element, by its kind: document 01, "The deck"; source document 001, sections 2.4.1, 2.4.2, 2.4.4, 2.4.10 and 2.4.11.
-use Prim.Native.Nat.{ℕ}
-use mathlib.Core.Path.{_≡_, refl, sym, ap}
+use Prim.Native.Nat.{ℕ, _+_}
+use mathlib.Core.Path.{_≡_, refl, sym, ap, _∙_}
 use mathlib.Core.Bool.{Bool, false}
-use mathlib.Core.List.{List, []}
+use mathlib.Core.List.{List, [], append-assoc}
+use lib.ListN.{length}
 use Rattle.format.specs.declared.Fault.the-variants as Fault
 use Rattle.format.specs.Format.{Format}
-use Rattle.format.specs.Join.{via, seq, _then_}
-use Rattle.format.specs.Number.{number, count, fixed, flag}
-use Rattle.format.specs.Each.{listed}
+use Rattle.format.specs.Join.{via, judged, pair, pairWrite, seq, _then_}
+use Rattle.format.specs.Number.{number, count, fixed, flag, spelt, length-spelt}
+use Rattle.format.specs.Each.{each, eachWrite, counted, listed}
+use Rattle.format.specs.Written.{behind, Stands, Held, Row}
 use Rattle.text.specs.Text.{word}
 use Rattle.date.specs.Date.{date}
 use Rattle.kind.specs.declared.Kind.{Kind}
@@ -96,3 +98,12 @@ words-none (Kind.Simple r) x f o = ap wordsOf (sym (f .1))
 words-none Kind.WordList x f o = absurd o
 words-none (Kind.Size r) x f o = ap wordsOf (sym (f .1))
 words-none (Kind.Dates r) x f o = ap wordsOf (sym (f .1))
+
+-- a list that stands at a place: the number of its words, and the words
+pub list-parts : (s : List ℕ) (at : ℕ) (x : Data) (u : List ℕ) → Stands wordData s at x u → Held (number 4) s at (length (wordsOf x)) × Row (λ i. word) s 0 (at + 4) (wordsOf x) u
+unfolding wordData listed counted count via judged pair pairWrite each number
+list-parts s at x u b =
+    let n = length (wordsOf x) in
+    let ws = eachWrite (λ i. word) 0 (wordsOf x) in
+    let e = b .is ∙ append-assoc (spelt 4 n) ws u in
+    ((_, record { fit = b .fit .0 .0 .0 .0; is = e }), record { fit = b .fit .0 .0 .1 .1; is = rw length-spelt at (behind s at (spelt 4 n) _ e) })

@@ -2,18 +2,17 @@
 use Prim.Native.Nat.{ℕ, zero, suc, _+_, _≤_, _<_}
 use native.Mathlib.Nat.{add-zero, zero-add}
 use native.Mathlib.Omega.{arith}
-use mathlib.Core.Path.{_≡_, sym, ap, _∙_}
-use mathlib.Core.List.{List, [], _∷_, append-nil}
+use mathlib.Core.Path.{_≡_, _∙_}
+use mathlib.Core.List.{List, [], _∷_, _++_, append-nil, append-assoc}
 use lib.ListN.{length, take, drop, length-append, length-drop}
-use lib.Seq.{drop-drop}
 use Rattle.format.specs.declared.Fault.{Fault}
 use Rattle.format.specs.declared.Read.{Read}
 use Rattle.format.specs.declared.Read.the-variants.{Got, No}
 use Rattle.format.specs.Format.{Format}
-use Rattle.format.specs.Each.{eachWrite}
+use Rattle.format.specs.Each.{eachWrite, AllFit}
 use Rattle.format.specs.Seen.{seen}
-use Rattle.format.specs.Written.{Row, Stands, first}
-use Rattle.format.specs.Back.{back-got, back-no}
+use Rattle.format.specs.Written.{behind, Row, Stands, first}
+use Rattle.format.specs.Back.{Where, back-got, back-no}
 
 -- of a row that starts at a place, value k starts behind the k values before it
 unfoldable pub startIn : {A : Type 0} → (ℕ → Format A) → ℕ → List A → ℕ → ℕ
@@ -33,11 +32,21 @@ written-more a i (suc k) (y ∷ xs) ys x e =
     let m = rw w at (written-more a (i + 1) k xs ys x e) in
     rw z (omega (arith, m, length-append (a i .write y) (eachWrite a (i + 1) (take (k + 1) xs)), length-append (a i .write y) (eachWrite a (i + 1) (take k xs))))
 
--- ---- as the code finds it
+pub start-more : {A : Type 0} (a : ℕ → Format A) (from k : ℕ) (xs ys : List A) (x : A) → drop k xs ≡ x ∷ ys → startIn a from xs (k + 1) ≡ startIn a from xs k + length (a k .write x)
+unfolding startIn
+start-more a from k xs ys x e = let z : 0 + k ≡ k = zero-add k in let m = rw z at (written-more a 0 k xs ys x e) in omega arith
 
--- whatever row of k values or more stands from a place on, at is where its value i starts, and the rest of the row stands there
-unfoldable pub Skipped : {A : Type 0} → (ℕ → Format A) → List ℕ → ℕ → ℕ → ℕ → ℕ → Type 0
-Skipped {A} a s from k i at = (xs : List A) (t : List ℕ) → Row a s 0 from xs t → k ≤ length xs → Row a s i at (drop i xs) t × (at ≡ startIn a from xs i)
+-- of a row that stands at a place, what is behind its first k values
+row-behind : {A : Type 0} (a : ℕ → Format A) (s : List ℕ) (i k at : ℕ) (xs : List A) (t : List ℕ) → Row a s i at xs t → k ≤ length xs → Row a s (i + k) (at + length (eachWrite a i (take k xs))) (drop k xs) t
+unfolding AllFit eachWrite
+row-behind a s i zero at xs t r l = let e : i + 0 ≡ i = add-zero i in let f : at + 0 ≡ at = add-zero at in rw (e, f) r
+row-behind a s i (suc k) at [] t r l = absurd (omega arith)
+row-behind a s i (suc k) at (x ∷ xs) t r l =
+    let w = a i .write x in
+    let rest : Row a s (i + 1) (at + length w) xs t = record { fit = r .fit .1; is = behind s at w (eachWrite a (i + 1) xs ++ t) (r .is ∙ append-assoc w (eachWrite a (i + 1) xs) t) } in
+    let e : i + 1 + k ≡ i + suc k = omega arith in
+    let f : at + length w + length (eachWrite a (i + 1) (take k xs)) ≡ at + length (w ++ eachWrite a (i + 1) (take k xs)) = omega (arith, length-append w (eachWrite a (i + 1) (take k xs))) in
+    rw (e, f) at (row-behind a s (i + 1) k (at + length w) xs t rest (omega arith))
 
 -- value k of a row
 pub record Nth {A : Type 0} (a : ℕ → Format A) (s : List ℕ) (from k at : ℕ) (xs : List A) : Type 0 where
@@ -48,36 +57,42 @@ pub record Nth {A : Type 0} (a : ℕ → Format A) (s : List ℕ) (from k at : �
   pub starts : at ≡ startIn a from xs k
   pub whole : drop k xs ≡ x ∷ ys
 
+pub nth : {A : Type 0} (a : ℕ → Format A) (s : List ℕ) (from k at : ℕ) (xs : List A) (t : List ℕ) → at ≡ startIn a from xs k → Row a s 0 from xs t → k < length xs → Nth a s from k at xs
+unfolding startIn
+nth a s from k at xs t e row l =
+    let z : 0 + k ≡ k = zero-add k in
+    let r : Row a s k at (drop k xs) t = rw e (rw z at (row-behind a s 0 k from xs t row (omega arith))) in
+    let f = first a s k at (drop k xs) t (omega (arith, length-drop k xs)) r in
+    record { x = f .x; ys = f .ys; tail = _; stands = f .stands; starts = e; whole = f .whole }
+
+-- ---- as the code finds it
+
+-- whatever row of k values or more stands from a place on, at is where its value i starts
+unfoldable pub Skipped : {A : Type 0} → (ℕ → Format A) → List ℕ → ℕ → ℕ → ℕ → ℕ → Type 0
+Skipped {A} a s from k i at = (xs : List A) (t : List ℕ) → Row a s 0 from xs t → k ≤ length xs → at ≡ startIn a from xs i
+
 module _ {A : Type 0} (a : ℕ → Format A) (s : List ℕ) (from k : ℕ) where
   pub skip-start : Skipped a s from k 0 from
   unfolding Skipped startIn eachWrite
-  skip-start xs t r h = (r, omega arith)
+  skip-start xs t r h = omega arith
 
   module _ (i at : ℕ) where
     pub skip-end : Skipped a s from k i at → i ≤ k → k ≤ i → Skipped a s from k k at
     skip-end w l m = let e : i ≡ k = omega arith in rw e at w
 
+    -- q is where the value ends that stands there
+    pub skip-step : (q : ℕ) → Skipped a s from k i at → i < k → Where (a i) s at (λ x. at + length (a i .write x)) q → Skipped a s from k (i + 1) q
+    unfolding Skipped Where
+    skip-step q w l h xs t row m =
+        let n = nth a s from i at xs t (w xs t row m) row (omega arith) in
+        omega (arith, h (n .x) (n .tail, n .stands), n .starts, start-more a from i xs (n .ys) (n .x) (n .whole))
+
+    -- as it was read
     module _ (g : A → ℕ) {r : Read} where
       pub skip-go : {v q : ℕ} → Skipped a s from k i at → i < k → r ≡ seen g (a i) s at → r ≡ Got v q → Skipped a s from k (i + 1) q
-      unfolding Skipped startIn
-      skip-go w l e h xs t row m =
-          let o = w xs t row m in
-          let f = first a s i at (drop i xs) t (omega (arith, length-drop i xs)) (o .0) in
-          let b = back-got g (a i) s at (f .stands) e h in
-          let d : f .ys ≡ drop (i + 1) xs = sym (sym (drop-drop 1 i xs) ∙ ap (drop 1) (f .whole)) in
-          let n = written-more a 0 i xs (f .ys) (f .x) (f .whole) in
-          let z : 0 + i ≡ i = zero-add i in
-          (rw (b .1, ← d) (f .rest), omega (arith, b .1, o .1, rw z at n))
+      unfolding Where
+      skip-go w l e h = skip-step _ w l (λ x b. back-got g (a i) s at (b .1) e h .1)
 
       pub skip-stop : {c : Fault} {q : ℕ} → Skipped a s from k i at → i < k → r ≡ seen g (a i) s at → r ≡ No c q → Skipped a s from k k 0
       unfolding Skipped
-      skip-stop w l e h xs t row m =
-          let o = w xs t row m in
-          back-no g (a i) s at (first a s i at (drop i xs) t (omega (arith, length-drop i xs)) (o .0) .stands) e h
-
-  pub nth : (at : ℕ) (xs : List A) (t : List ℕ) → Skipped a s from k k at → Row a s 0 from xs t → k < length xs → Nth a s from k at xs
-  unfolding Skipped
-  nth at xs t w row l =
-      let o = w xs t row (omega arith) in
-      let f = first a s k at (drop k xs) t (omega (arith, length-drop k xs)) (o .0) in
-      record { x = f .x; ys = f .ys; tail = _; stands = f .stands; starts = o .1; whole = f .whole }
+      skip-stop w l e h xs t row m = back-no g (a i) s at (nth a s from i at xs t (w xs t row m) row (omega arith) .stands) e h

@@ -14,6 +14,7 @@ use Rattle.format.specs.declared.Outcome.{Outcome}
 use Rattle.format.specs.declared.Outcome.the-variants as Outcome
 use Rattle.format.specs.Format.{Answer, got, refused, pick, Bytes}
 use Rattle.format.specs.Number.{spelt, length-spelt}
+use Rattle.format.specs.Skip.{startIn}
 use Rattle.text.specs.Text.{string}
 use Rattle.kind.specs.declared.Product.{Product}
 use Rattle.kind.specs.declared.Edition.{Edition}
@@ -120,7 +121,7 @@ counted-holds m o xs T h e =
 module _ (n k m a b : ℕ) (f c l d : List ℕ) where
   pub copied-holds : (len : ℕ) (z₁ : List ℕ) {z₂ z₃ : List ℕ} → Opens n k m a b len d z₁ → z₂ ≡ putIn z₁ a (copied f c l k) → z₃ ≡ putIn z₂ 5 (spelt 2 (m + 1)) → length c ≡ 2 → len ≡ copySize f l k → 16 ≤ length f → k ≤ m → n + (len - lost k m) ≤ length d
       → Copied n k m a b f c l d z₃
-  unfolding Copied Whatever Opens startOf
+  unfolding Copied Whatever Opens startOf startIn rules
   copied-holds len z₁ {z₂} {z₃} O e₂ e₃ lc el lf lk r p rs q o w em ea eb ef ec ez = go (O p rs o w em lk ea eb (omega arith) r)
     where
       go : Gap z₁ (λ G. before m (take k rs) ++ (G ++ rules (k + 1) (drop k rs))) len (n + (len - lost k m)) d → Holds z₃ (written (with k rs q)) (n + (copySize f l k - lost k m)) d
@@ -276,7 +277,7 @@ module _ (edition : ℕ) (s : List ℕ) (j : ℕ) {f : Spot} where
 
 -- where the place was found: the bounds that keep sums from wrapping
 pub found-place : (k edition n : ℕ) (d : List ℕ) {c : Spot} {m a b : ℕ} → Bytes d → c ≡ found (λ rs. k) edition n d → c ≡ Spot.Is m a b → Within n m a b d × (a + lost k m ≤ n)
-unfolding startOf
+unfolding startOf startIn rules
 found-place k edition n d {m = m} {a = a} bs g h =
     let o = ground (λ rs. k) edition n d bs g h in (
       found-within (λ rs. k) edition n d bs g h,

@@ -12,6 +12,7 @@ use borrow.Author.Tests.{eq-eqb, ne-eqb}
 use Rattle.format.specs.Format.{pick}
 use Rattle.format.specs.Number.{spelt, length-spelt}
 use Rattle.format.specs.Each.{eachWrite}
+use Rattle.format.specs.Skip.{startIn}
 use Rattle.text.specs.Text.{string}
 use Rattle.kind.specs.declared.Product.{Product}
 use Rattle.rule.specs.Rule.{Rule}
@@ -107,7 +108,7 @@ parts-at p s rs k o l =
 module _ (n k m a b len : ℕ) (d z : List ℕ) where
   -- nothing else is done where no rule behind it changes
   pub opens-plain : lost k m ≡ 0 → z ≡ opened d n a a len → Opens n k m a b len d z
-  unfolding Opens startOf
+  unfolding Opens startOf startIn rules
   opens-plain e g p rs o w em l ea eb h r =
       let P = before m (take k rs) in
       let i : take n d ≡ P ++ rules (k + 1) (drop k rs) = rw (← em, rules-kept k rs (rw em at e)) at (parts-at p (take n d) rs k o (omega arith)) in
@@ -115,7 +116,7 @@ module _ (n k m a b len : ℕ) (d z : List ℕ) where
       rw hi at (holds-open P [] (rules (k + 1) (drop k rs)) (holds-start d n w) i (length-take-le n d w) (before-long m (take k rs) ∙ sym ea) (omega arith) (omega arith) g)
 
   pub opens-first : (lost k m ≡ 0 → ⊥) → Opens n 0 m 7 b len d z → Opens n k m a b len d z
-  unfolding Opens startOf rules eachWrite
+  unfolding Opens startOf startIn rules eachWrite
   opens-first e f p rs o w em l ea eb h r = let u = lost-is k m e .0 in rw u (f p rs o w em (omega arith) refl (rw u at eb) h (rw u at r))
 
 -- the first rule up to its head moves up, and gets another head and another Data Size
@@ -182,11 +183,11 @@ second-is r later = rules-cons 1 r later ∙ ap (λ (t : List ℕ). front r ++ (
 
 module _ (n : ℕ) (d : List ℕ) {p : Product} {rs : List Rule} (h : Here p (take n d) rs 0) where
   name-at : nameEnd d 7 ≡ 11 + length (string .write (h .r .name))
-  unfolding startOf rules eachWrite
+  unfolding startOf startIn rules eachWrite
   name-at = name-ends n d h ∙ omega arith
 
   ends-at : startOf rs 1 ≡ nameEnd d 7 + 44 + length (inner (h .r .elements))
-  unfolding startOf rules eachWrite sizeOf
+  unfolding startOf startIn rules eachWrite sizeOf
   ends-at = h .ends ∙ omega (arith, front-long (h .r), back-long 0 (h .r .elements), head-long, name-at)
 
 module _ (n m b len : ℕ) (d : List ℕ) (e : ℕ) where
@@ -196,7 +197,7 @@ module _ (n m b len : ℕ) (d : List ℕ) (e : ℕ) where
 
   pub opens-shift : {z₁ z₂ z₃ z₄ : List ℕ} {a₁ b₁ e₂ a₃ a₄ t : ℕ} → e ≡ nameEnd d 7 → 0 < m → z₁ ≡ opened d n a₁ b₁ (len + 2) → z₂ ≡ moved (up len) 7 e₂ z₁ → z₃ ≡ putIn z₂ a₃ (spelt 4 t) → z₄ ≡ putIn z₃ a₄ (headBytes 1)
       → a₁ ≡ e + 26 → b₁ ≡ e + 44 → e₂ ≡ e + 26 + len → a₃ ≡ e + 20 + len → a₄ ≡ e + 26 + len → t ≡ b - e - 40 → Opens n 0 m 7 b len d z₄
-  unfolding Opens sizeOf startOf rules eachWrite
+  unfolding Opens sizeOf startOf startIn rules eachWrite
   opens-shift {z₄ = z₄} {t = t} g q e₁ m₂ e₃ e₄ f₁ g₁ f₂ f₃ f₄ et p rs o w em k ea eb h r = go (here p (take n d) rs 0 o (omega arith))
     where
       go : Here p (take n d) rs 0 → Gap z₄ (λ G. before m (take 0 rs) ++ (G ++ rules (0 + 1) (drop 0 rs))) len (n + (len - lost 0 m)) d

@@ -1,12 +1,11 @@
 -- From rule to rule of a sound deck.
-use Prim.Native.Nat.{ℕ, zero, suc, _+_, _-_, _≤_, _<_}
-use native.Mathlib.Nat.{zero-add}
+use Prim.Native.Nat.{ℕ, _+_, _-_, _≤_, _<_}
 use native.Mathlib.Omega.{arith}
 use native.Mathlib.Decide.{decLt}
 use mathlib.Core.Path.{_≡_, refl, sym, ap, _∙_}
 use mathlib.Core.Bool.{Bool, true, false}
 use mathlib.Core.List.{List, [], _∷_, _++_, append-assoc, append-nil}
-use lib.ListN.{length, take, drop, length-append, length-drop}
+use lib.ListN.{length, take, drop, length-append, take-append-drop}
 use lib.Dec.{leb}
 use borrow.Author.Tests.{le-leb, lt-leb, leb-true}
 use lib.Seq.{take-all, drop-at, length-take-le}
@@ -14,23 +13,24 @@ use Rattle.format.specs.declared.Fault.{Fault}
 use Rattle.format.specs.declared.Read.{Read}
 use Rattle.format.specs.declared.Read.the-variants.{Got, No}
 use Rattle.format.specs.Format.{Answer, got, refused, Bytes, pick}
-use Rattle.format.specs.Join.{via, pair}
-use Rattle.format.specs.Number.{number, spelt, length-spelt}
-use Rattle.format.specs.Each.{each, eachWrite, AllFit, all-drop, counted}
+use Rattle.format.specs.Number.{number, length-spelt}
+use Rattle.format.specs.Each.{eachWrite}
 use Rattle.format.specs.Seen.{seen, itself, unlike}
-use Rattle.format.specs.Written.{behind, seen-back}
-use Rattle.format.specs.Back.{seen-ends}
+use Rattle.format.specs.Written.{Held, Row}
+use Rattle.format.specs.Back.{Where, stands-seen, stands-room, seen-ends}
+use Rattle.format.specs.Skip.{startIn, Skipped, skip-start, skip-step, skip-end, Nth, nth, start-more}
 use Rattle.text.specs.Text.{string}
 use Rattle.kind.specs.declared.Product.{Product}
 use Rattle.kind.specs.declared.Edition.{Edition}
 use Rattle.kind.specs.declared.Edition.the-variants as Edition
 use Rattle.kind.specs.Kinds.{editionOf}
 use Rattle.rule.specs.Rule.{Rule, rule}
-use Rattle.rule.specs.Parts.{front, back, sizeOf, headBytes, inner, kept, kept-long, front-long, back-long, size-small, name-fits}
-use Rattle.deck.specs.Deck.{deck, readAs, readBy, readDeck, scanned, read-writes-back}
+use Rattle.rule.specs.Parts.{front, back, sizeOf, body-size, rule-is}
+use Rattle.rule.specs.Places.{ruleBytes, rule-parts}
+use Rattle.deck.specs.Deck.{deck, deck-row, readAs, readBy, readDeck, scanned, read-writes-back}
 use Rattle.deck.specs.declared.Scan.{Scan}
 use Rattle.deck.specs.declared.Scan.the-variants as Scan
-use Rattle.deck.specs.Written.{written, written-as, written-is, rules, rules-cons, rules-append, before, before-long, startOf}
+use Rattle.deck.specs.Written.{written, written-as, written-is, rules, rules-cons, before, before-long, startOf, start-is, start-as}
 use Rattle.locate.specs.declared.Spot.{Spot}
 use Rattle.locate.specs.declared.Spot.the-variants as Spot
 use Rattle.locate.specs.Located.{located}
@@ -55,90 +55,40 @@ pub record Here (p : Product) (s : List ℕ) (rs : List Rule) (k : ℕ) : Type 0
   pub starts : length (before (length rs) (take k rs)) ≡ startOf rs k
   pub ends : startOf rs (k + 1) ≡ startOf rs k + (length (front r) + length (back k (r .elements)))
 
-taken : {A : Type 0} (k : ℕ) (xs ys : List A) (x : A) → drop k xs ≡ x ∷ ys → take (k + 1) xs ≡ take k xs ++ (x ∷ [])
-taken zero [] ys x e = absurd (let z : _≡_ {A = ℕ} 0 1 = cc in omega arith)
-taken zero (y ∷ xs) ys x e = let h : y ≡ x = cc in rw h
-taken (suc k) [] ys x e = absurd (let z : _≡_ {A = ℕ} 0 1 = cc in omega arith)
-taken (suc k) (y ∷ xs) ys x e = let z : suc k + 1 ≡ suc (k + 1) = omega arith in rw z (ap (λ (l : List _). y ∷ l) (taken k xs ys x e))
-
-rest-is : {A : Type 0} (k : ℕ) (xs : List A) → take k xs ++ drop k xs ≡ xs
-rest-is zero xs = refl
-rest-is (suc k) [] = refl
-rest-is (suc k) (x ∷ xs) = ap (λ (l : List _). x ∷ l) (rest-is k xs)
-
-rules-none : (i : ℕ) → length (rules i []) ≡ 0
-unfolding rules eachWrite
-rules-none i = refl
+-- its rules stand behind its header
+sound-row : (p : Product) (s : List ℕ) (rs : List Rule) → Sound p s rs → Row (rule p) s 0 7 rs []
+sound-row p s rs o = deck-row p s rs (o .fit) (o .is ∙ sym (written-as p rs))
 
 pub here : (p : Product) (s : List ℕ) (rs : List Rule) (k : ℕ) → Sound p s rs → k < length rs → Here p s rs k
-unfolding startOf deck counted via pair each AllFit
-here p s rs k o l = go (drop k rs) refl
+here p s rs k o l = go (nth (rule p) s 7 k (startIn (rule p) 7 rs k) rs [] refl (sound-row p s rs o) l)
   where
-    all : AllFit (rule p) (0 + k) (drop k rs)
-    all = all-drop (rule p) 0 k rs (o .fit .0 .1 .1)
-
-    ends : (r : Rule) (later : List Rule) → drop k rs ≡ r ∷ later → 7 + length (rules 0 (take (k + 1) rs)) ≡ 7 + length (rules 0 (take k rs)) + (length (front r) + length (back k (r .elements)))
-    ends r later e =
-        let n : 0 + length (take k rs) ≡ k = zero-add (length (take k rs)) ∙ length-take-le k rs (omega arith) in
-        let a = rules-append 0 (take k rs) (r ∷ []) in
-        let b : rules 0 (take (k + 1) rs) ≡ rules 0 (take k rs) ++ (front r ++ (back k (r .elements) ++ rules (k + 1) [])) = ap (rules 0) (taken k rs later r e) ∙ (rw (n, rules-cons) at a) in
-        omega (arith, ap length b, length-append (rules 0 (take k rs)) (front r ++ (back k (r .elements) ++ rules (k + 1) [])), length-append (front r) (back k (r .elements) ++ rules (k + 1) []), length-append (back k (r .elements)) (rules (k + 1) []), rules-none (k + 1))
-
-    go : (ys : List Rule) → drop k rs ≡ ys → Here p s rs k
-    go [] e = absurd (omega (arith, length-drop k rs, ap length e))
-    go (r ∷ later) e =
-        let w : take k rs ++ (r ∷ later) ≡ rs = ap (λ (z : List Rule). take k rs ++ z) (sym e) ∙ rest-is k rs in
+    go : Nth (rule p) s 7 k (startIn (rule p) 7 rs k) rs → Here p s rs k
+    go v =
+        let w : take k rs ++ (v .x ∷ v .ys) ≡ rs = ap (λ (z : List Rule). take k rs ++ z) (sym (v .whole)) ∙ take-append-drop k rs in
         let n : length (take k rs) ≡ k = length-take-le k rs (omega arith) in
-        let i = written-is (take k rs) (r ∷ later) in
-        let f : AllFit (rule p) (0 + k) (r ∷ later) = rw e at all in
+        let i = written-is (take k rs) (v .x ∷ v .ys) in
         record {
-          r = r;
-          later = later;
-          from = e;
-          fits = rw zero-add at (f .0);
+          r = v .x;
+          later = v .ys;
+          from = v .whole;
+          fits = v .stands .fit;
           is = o .is ∙ (rw (w, n, rules-cons) at i);
-          starts = before-long (length rs) (take k rs);
-          ends = ends r later e;
+          starts = before-long (length rs) (take k rs) ∙ sym (start-is rs k);
+          ends = omega (arith, start-as p rs k, start-as p rs (k + 1), start-more (rule p) 7 k rs (v .ys) (v .x) (v .whole), ap length (rule-is p k (v .x)), length-append (front (v .x)) (back k (v .x .elements)));
         }
 
+-- rule k of a sound deck stands where it starts
+pub here-stands : (p : Product) (s : List ℕ) (rs : List Rule) (k : ℕ) (h : Here p s rs k) → Held (rule p k) s (startOf rs k) (h .r)
+here-stands p s rs k h =
+    let L = rules (k + 1) (h .later) in
+    let w : front (h .r) ++ (back k (h .r .elements) ++ L) ≡ rule p k .write (h .r) ++ L = rw (rule-is p k (h .r), append-assoc) in
+    (L, record { fit = h .fits; is = ap (drop (startOf rs k)) (h .is) ∙ drop-at (before (length rs) (take k rs)) _ (startOf rs k) (h .starts) ∙ w })
+
 -- ---- a rule that stands at a place, as it is stepped over
-unfoldable pub Stands : List ℕ → ℕ → Product → ℕ → Rule → Type 0
-Stands s at p i x = rule p i .Fit x × ((t : List ℕ) × (drop at s ≡ front x ++ (back i (x .elements) ++ t)))
 
 -- whatever rule stands at a place, r is where it ends
 unfoldable pub Follows : List ℕ → ℕ → ℕ → Type 0
-Follows s at r = (p : Product) (i : ℕ) (x : Rule) → Stands s at p i x → r ≡ at + (length (front x) + length (back i (x .elements)))
-
--- what is read of it on the way: its name behind four bytes, Data Size behind twenty more, and that many bytes
-pub record Read-over (s : List ℕ) (at i : ℕ) (x : Rule) : Type 0 where
-  pub four : 4 ≤ length s - at
-  pub name : seen length string s (at + 4) ≡ Got (length (x .name)) (at + 4 + length (string .write (x .name)))
-  pub twenty : 20 ≤ length s - (at + 4 + length (string .write (x .name)))
-  pub size : seen itself (number 4) s (at + 4 + length (string .write (x .name)) + 20) ≡ Got (sizeOf i (x .elements)) (at + 4 + length (string .write (x .name)) + 20 + 4)
-  pub all : sizeOf i (x .elements) ≤ length s - (at + 4 + length (string .write (x .name)) + 20 + 4)
-  pub whole : at + (length (front x) + length (back i (x .elements))) ≡ at + 4 + length (string .write (x .name)) + 20 + 4 + sizeOf i (x .elements)
-
-read-over : (s : List ℕ) (at : ℕ) (p : Product) (i : ℕ) (x : Rule) → Stands s at p i x → Read-over s at i x
-unfolding Stands front back number
-read-over s at p i x o =
-    let t = o .1 .0 in
-    let W = string .write (x .name) in
-    let B = spelt 2 (length (x .elements)) ++ (headBytes i ++ inner (x .elements)) in
-    let size = sizeOf i (x .elements) in
-    let e₀ : drop at s ≡ spelt 4 (x .signature) ++ (W ++ (kept x ++ (spelt 4 size ++ (B ++ t)))) = o .1 .1 ∙ simp append-assoc in
-    let e₁ : drop (at + 4) s ≡ W ++ (kept x ++ (spelt 4 size ++ (B ++ t))) = rw length-spelt at (behind s at (spelt 4 (x .signature)) (W ++ (kept x ++ (spelt 4 size ++ (B ++ t)))) e₀) in
-    let e₂ : drop (at + 4 + length W) s ≡ kept x ++ (spelt 4 size ++ (B ++ t)) = behind s (at + 4) W (kept x ++ (spelt 4 size ++ (B ++ t))) e₁ in
-    let e₃ : drop (at + 4 + length W + 20) s ≡ spelt 4 size ++ (B ++ t) = rw kept-long at (behind s (at + 4 + length W) (kept x) (spelt 4 size ++ (B ++ t)) e₂) in
-    let e₄ : drop (at + 4 + length W + 20 + 4) s ≡ B ++ t = rw length-spelt at (behind s (at + 4 + length W + 20) (spelt 4 size) (B ++ t) e₃) in
-    let b = back-long i (x .elements) in
-    record {
-      four = omega (arith, length-drop at s, ap length e₀, length-append (spelt 4 (x .signature)) (W ++ (kept x ++ (spelt 4 size ++ (B ++ t)))), length-spelt 4 (x .signature));
-      name = seen-back length string (x .name) s (at + 4) (kept x ++ (spelt 4 size ++ (B ++ t))) (name-fits p i x (o .0)) e₁;
-      twenty = omega (arith, length-drop (at + 4 + length W) s, ap length e₂, length-append (kept x) (spelt 4 size ++ (B ++ t)), kept-long x);
-      size = rw length-spelt at (seen-back itself (number 4) size s (at + 4 + length W + 20) (B ++ t) (size-small p i x (o .0)) e₃);
-      all = omega (arith, length-drop (at + 4 + length W + 20 + 4) s, ap length e₄, length-append B t, b, length-append (spelt 4 size) B, length-spelt 4 size);
-      whole = omega (arith, front-long x, b);
-    }
+Follows s at r = (p : Product) (i : ℕ) → Where (rule p i) s at (λ x. at + ruleBytes p i x) r
 
 -- where the name ends of the rule that starts at a place; where no String can be read there, the place itself
 abbrev pub ended : ℕ → Read → ℕ
@@ -149,9 +99,16 @@ unfoldable pub nameEnd : List ℕ → ℕ → ℕ
 nameEnd s at = pick (leb 4 (length s - at)) (ended at (seen length string s (at + 4))) at
 
 module _ (s : List ℕ) (at : ℕ) where
-  pub name-end : (p : Product) (i : ℕ) (x : Rule) → Stands s at p i x → nameEnd s at ≡ at + 4 + length (string .write (x .name))
+  pub name-end : (p : Product) (i : ℕ) (x : Rule) → Held (rule p i) s at x → nameEnd s at ≡ at + 4 + length (string .write (x .name))
   unfolding nameEnd pick
-  name-end p i x o = let v = read-over s at p i x o in rw (le-leb 4 (length s - at) (v .four), v .name)
+  name-end p i x b =
+      let y = rule-parts p i s at x (b .0) (b .1) in
+      let h : 4 ≤ length s - at = omega (arith, stands-room (rule p i) s at (b .1), y .ends) in
+      rw (le-leb 4 (length s - at) h, stands-seen length string s (at + 4) (y .named .1))
+
+  -- it stands to its end
+  all-there : (p : Product) (i : ℕ) (x : Rule) → Held (rule p i) s at x → nameEnd s at + 24 + sizeOf i (x .elements) ≤ length s
+  all-there p i x b = omega (arith, name-end p i x b, rule-parts p i s at x (b .0) (b .1) .ends, body-size p i (x .elements), stands-room (rule p i) s at (b .1))
 
   pub name-past : {w : ℕ} → w ≡ length s - at → w < 4 → at ≡ nameEnd s at
   unfolding nameEnd pick
@@ -179,76 +136,75 @@ module _ (s : List ℕ) (at : ℕ) where
   -- m is where the name ends
   module _ {m : ℕ} where
     pub follows-short : (r : ℕ) {w : ℕ} → m ≡ nameEnd s at → w ≡ length s - m → w < 20 → Follows s at r
-    unfolding Follows
-    follows-short r e g l p i x o = absurd (omega (arith, e, name-end p i x o, read-over s at p i x o .twenty))
+    unfolding Follows Where
+    follows-short r e g l p i x b = absurd (omega (arith, all-there p i x b))
 
     -- z is what Data Size was read as
     module _ {z : Read} where
-      pub size-read : (p : Product) (i : ℕ) (x : Rule) → Stands s at p i x → m ≡ nameEnd s at → z ≡ seen itself (number 4) s (m + 20) → z ≡ Got (sizeOf i (x .elements)) (m + 20 + 4)
-      size-read p i x o e f = let w = e ∙ name-end p i x o in rw w (rw w at f ∙ read-over s at p i x o .size)
+      pub size-read : (p : Product) (i : ℕ) (x : Rule) → Held (rule p i) s at x → m ≡ nameEnd s at → z ≡ seen itself (number 4) s (m + 20) → z ≡ Got (sizeOf i (x .elements)) (m + 20 + 4)
+      unfolding number
+      size-read p i x b e f =
+          let w = e ∙ name-end p i x b in
+          let y = rule-parts p i s at x (b .0) (b .1) .sizes in
+          rw w (rw w at f ∙ (rw (length-spelt, body-size) at (stands-seen itself (number 4) s _ (y .1))))
 
       pub follows-unsized : (r : ℕ) {c : Fault} {q : ℕ} → m ≡ nameEnd s at → z ≡ seen itself (number 4) s (m + 20) → z ≡ No c q → Follows s at r
-      unfolding Follows
-      follows-unsized r e f k p i x o = unlike (size-read p i x o e f) k
+      unfolding Follows Where
+      follows-unsized r e f k p i x b = unlike (size-read p i x b e f) k
 
       module _ {v q : ℕ} where
-        pub size-is : (p : Product) (i : ℕ) (x : Rule) → Stands s at p i x → m ≡ nameEnd s at → z ≡ seen itself (number 4) s (m + 20) → z ≡ Got v q → (v ≡ sizeOf i (x .elements)) × (q ≡ m + 20 + 4)
-        size-is p i x o e f k = let g : Got v q ≡ Got (sizeOf i (x .elements)) (m + 20 + 4) = sym k ∙ size-read p i x o e f in ((cc), (cc))
+        pub size-is : (p : Product) (i : ℕ) (x : Rule) → Held (rule p i) s at x → m ≡ nameEnd s at → z ≡ seen itself (number 4) s (m + 20) → z ≡ Got v q → (v ≡ sizeOf i (x .elements)) × (q ≡ m + 20 + 4)
+        size-is p i x b e f k = let g : Got v q ≡ Got (sizeOf i (x .elements)) (m + 20 + 4) = sym k ∙ size-read p i x b e f in ((cc), (cc))
 
         pub follows-cut : (r : ℕ) {w : ℕ} → m ≡ nameEnd s at → z ≡ seen itself (number 4) s (m + 20) → z ≡ Got v q → w ≡ length s - q → w < v → Follows s at r
-        unfolding Follows
-        follows-cut r e f k g l p i x o =
-            let d = size-is p i x o e f k in
-            absurd (omega (arith, read-over s at p i x o .all, d .0, d .1, e, name-end p i x o))
+        unfolding Follows Where
+        follows-cut r e f k g l p i x b =
+            let d = size-is p i x b e f k in
+            absurd (omega (arith, all-there p i x b, d .0, d .1, e))
 
         pub follows-is : m ≡ nameEnd s at → z ≡ seen itself (number 4) s (m + 20) → z ≡ Got v q → Follows s at (q + v)
-        unfolding Follows
-        follows-is e f k p i x o =
-            let d = size-is p i x o e f k in
-            omega (arith, read-over s at p i x o .whole, d .0, d .1, e, name-end p i x o)
+        unfolding Follows Where
+        follows-is e f k p i x b =
+            let d = size-is p i x b e f k in
+            omega (arith, rule-parts p i s at x (b .0) (b .1) .ends, body-size p i (x .elements), d .0, d .1, e, name-end p i x b)
 
 pub ruleset following = (follows-short, follows-unsized, follows-cut, follows-is)
 
 -- ---- from rule to rule
 
--- rule k of a sound deck stands where it starts
-pub here-stands : (p : Product) (s : List ℕ) (rs : List Rule) (k : ℕ) (h : Here p s rs k) → Stands s (startOf rs k) p k (h .r)
-unfolding Stands
-here-stands p s rs k h =
-    (h .fits, (rules (k + 1) (h .later), ap (drop (startOf rs k)) (h .is) ∙ drop-at (before (length rs) (take k rs)) (front (h .r) ++ (back k (h .r .elements) ++ rules (k + 1) (h .later))) (startOf rs k) (h .starts)))
-
--- whatever rules a sound deck has, rule i of them starts at a place
+-- whatever rules stand behind the header, k of them or more, rule i of them starts at a place
 unfoldable pub Reached : List ℕ → ℕ → ℕ → ℕ → Type 0
-Reached s k i at = (p : Product) (rs : List Rule) → Sound p s rs → k ≤ length rs → at ≡ startOf rs i
+Reached s k i at = (p : Product) → Skipped (rule p) s 7 k i at
 
 module _ (s : List ℕ) (k : ℕ) where
   pub reached-start : Reached s k 0 7
-  unfolding Reached startOf rules eachWrite
-  reached-start p rs o h = refl
+  unfolding Reached
+  reached-start p = skip-start (rule p) s 7 k
 
-  pub reached-go : (i at q : ℕ) → Reached s k i at → i < k → Follows s at q → Reached s k (i + 1) q
-  unfolding Reached Follows
-  reached-go i at q w l f p rs o h =
-      let v = here p s rs i o (omega arith) in
-      let e : at ≡ startOf rs i = w p rs o h in
-      let g = f p i (v .r) (rw e (here-stands p s rs i v)) in
-      omega (arith, g, e, v .ends)
+  module _ (i at : ℕ) where
+    pub reached-go : (q : ℕ) → Reached s k i at → i < k → Follows s at q → Reached s k (i + 1) q
+    unfolding Reached Follows
+    reached-go q w l f p = skip-step (rule p) s 7 k i at q (w p) l (f p i)
 
-  pub reached-end : (i at : ℕ) → Reached s k i at → i ≤ k → k ≤ i → Reached s k k at
-  reached-end i at w l m = let e : i ≡ k = omega arith in rw e at w
+    pub reached-end : Reached s k i at → i ≤ k → k ≤ i → Reached s k k at
+    unfolding Reached
+    reached-end w l m p = skip-end (rule p) s 7 k i at (w p) l m
+
+    -- of a sound deck
+    pub reached-is : (p : Product) (rs : List Rule) → Reached s k i at → Sound p s rs → k ≤ length rs → at ≡ startOf rs i
+    unfolding Reached Skipped
+    reached-is p rs w o l = w p rs [] (sound-row p s rs o) l ∙ start-as p rs i
 
 -- ---- what is answered
 
 -- past the last rule there is only the end of the deck
 pub start-past : (p : Product) (s : List ℕ) (rs : List Rule) (k : ℕ) → Sound p s rs → length rs ≤ k → startOf rs k ≡ length s
-unfolding startOf
+unfolding rules eachWrite
 start-past p s rs k o l =
     let t : take k rs ≡ rs = take-all k rs l in
     let i = written-is rs [] in
     let n : rs ++ [] ≡ rs = append-nil rs in
-    let b = before-long (length rs) rs in
-    let z = rules-none (length rs) in
-    rw t (omega (arith, ap length (o .is), ap length (rw n at i), length-append (before (length rs) rs) (rules (length rs) []), b, z))
+    start-is rs k ∙ rw t (omega (arith, ap length (o .is), ap length (rw n at i), length-append (before (length rs) rs) (rules (length rs) []), before-long (length rs) rs))
 
 -- a rule stands within its deck
 pub start-within : (p : Product) (s : List ℕ) (rs : List Rule) (k : ℕ) → Sound p s rs → (startOf rs k ≤ startOf rs (k + 1)) × (startOf rs (k + 1) ≤ length s)
@@ -275,12 +231,14 @@ module _ (s : List ℕ) (n k : ℕ) where
   spots-past l p rs m o e = rw (start-past p s rs k o (omega arith), start-past p s rs (k + 1) o (omega arith), e)
 
   pub spots-is : (a b : ℕ) → k < n → Reached s k k a → Follows s a b → Spots s n k (Spot.Is n a b)
-  unfolding Spots Reached Follows
+  unfolding Spots Follows Where
   spots-is a b l w f p rs m o e =
-      let v = here p s rs k o (omega arith) in
-      let ea : a ≡ startOf rs k = w p rs o (omega arith) in
-      let eb : b ≡ startOf rs (k + 1) = omega (arith, f p k (v .r) (rw ea (here-stands p s rs k v)), ea, v .ends) in
+      let ea : a ≡ startOf rs k = reached-is s k k a p rs w o (omega arith) in
+      let eb : b ≡ startOf rs (k + 1) = ends (here p s rs k o (omega arith)) ea in
       rw (e, ea, eb)
+    where
+      ends : Here p s rs k → a ≡ startOf rs k → b ≡ startOf rs (k + 1)
+      ends h ea = omega (arith, f p k (h .r) (rw ea (here-stands p s rs k h)), ea, h .ends, ap length (rule-is p k (h .r)), length-append (front (h .r)) (back k (h .r .elements)))
 
 -- k is the rule that is asked for
 module _ (k : List Rule → ℕ) (edition : ℕ) (s : List ℕ) {c : Scan} where

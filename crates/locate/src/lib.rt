@@ -46,7 +46,7 @@ fn end_of(s: &[u8], at: usize) -> usize
 }
 
 // Where rule k of a sound deck starts.
-fn start_of(s: &[u8], k: u64) -> usize
+pub fn start_of(s: &[u8], k: u64) -> usize
     ensures { λ r. ⌜ Reached (now (s .entry)) k k r ⌝ }
 {
     let mut i = 0;

@@ -46,12 +46,13 @@ module _ (p : Product) (n m a : ℕ) (d : List ℕ) (e : Edit) (F : List Rule �
 
   -- whatever the last rule is
   pub on-last : {t : ℕ} (r : Outcome) (d′ : List ℕ) → (m ≡ 0 → ⊥) → t ≡ nameEnd d a
-      → ((rs : List Rule) (h : Here p (take n d) rs (m - 1)) → h .later ≡ [] → n ≤ length d → length rs ≤ 256 → t ≡ startOf rs (m - 1) + 4 + length (string .write (h .r .name)) → Does n (F rs (m - 1) (h .r)) d r d′)
+      → ((rs : List Rule) (h : Here p (take n d) rs (m - 1)) → h .later ≡ [] → n ≤ length d → length rs ≤ 256 → t ≡ startOf rs (m - 1) + 4 + length (string .write (h .r .name)) → a ≡ startOf rs (m - 1) → Does n (F rs (m - 1) (h .r)) d r d′)
       → MakesAs p lastOf n m a e d r d′
   unfolding MakesAs
   on-last {t} r d′ l g f rs o w em ea = go (here p (take n d) rs (m - 1) o (omega arith)) (ap (λ (i : ℕ). i - 1) (sym em))
     where
       go : Here p (take n d) rs (m - 1) → length rs - 1 ≡ m - 1 → Does n (edited p e rs) d r d′
       go h ek =
-          let t′ : t ≡ startOf rs (m - 1) + 4 + length (string .write (h .r .name)) = g ∙ ap (nameEnd d) (ea ∙ ap (startOf rs) ek) ∙ name-ends n d h in
-          rw (q rs, ek, at-last rs (m - 1) _ (h .from)) (f rs h (last-rule h (omega arith)) w (sound-small n d o) t′)
+          let a′ : a ≡ startOf rs (m - 1) = ea ∙ ap (startOf rs) ek in
+          let t′ : t ≡ startOf rs (m - 1) + 4 + length (string .write (h .r .name)) = g ∙ ap (nameEnd d) a′ ∙ name-ends n d h in
+          rw (q rs, ek, at-last rs (m - 1) _ (h .from)) (f rs h (last-rule h (omega arith)) w (sound-small n d o) t′ a′)

@@ -12,16 +12,17 @@ use Rattle.format.specs.declared.Fault.the-variants as Fault
 use Rattle.format.specs.declared.Outcome.{Outcome}
 use Rattle.format.specs.declared.Outcome.the-variants as Outcome
 use Rattle.format.specs.Format.{Answer, got, refused, pick}
+use Rattle.format.specs.Written.{Held}
 use Rattle.text.specs.Text.{string}
 use Rattle.kind.specs.declared.Product.{Product}
 use Rattle.element.specs.Element.{Element}
-use Rattle.rule.specs.Rule.{Rule}
-use Rattle.rule.specs.Parts.{front, back}
+use Rattle.rule.specs.Rule.{Rule, rule}
+use Rattle.rule.specs.Parts.{front, back, rule-is}
 use Rattle.deck.specs.Written.{written, written-is, before, rules, rules-cons, startOf}
 use Rattle.deck.specs.Deck.{deck-small}
 use Rattle.buffer.specs.Laid.{laid}
 use Rattle.buffer.specs.Holds.{Holds}
-use Rattle.locate.specs.Steps.{Sound, Here, Stands, nameEnd, name-end}
+use Rattle.locate.specs.Steps.{Sound, Here, nameEnd, name-end}
 use Rattle.plan.specs.Given.{isText}
 use Rattle.plan.specs.Edit.{Plan, become, refuse, refuseGiven, atRule, atLast, ifText, unlessFull, atGiven, room, says, leaves}
 use Rattle.plan.specs.Found.{Does}
@@ -30,13 +31,12 @@ use Rattle.plan.specs.Found.{Does}
 
 module _ (n : ℕ) (d : List ℕ) {p : Product} {rs : List Rule} where
   -- a rule of the deck stands in the buffer where it stands in the deck
-  pub here-in : {k : ℕ} (h : Here p (take n d) rs k) → Stands d (startOf rs k) p k (h .r)
-  unfolding Stands
+  pub here-in : {k : ℕ} (h : Here p (take n d) rs k) → Held (rule p k) d (startOf rs k) (h .r)
   here-in {k} h =
-      let L = rules (k + 1) (h .later) in
+      let L = rules (k + 1) (h .later) ++ drop n d in
       let P = before (length rs) (take k rs) in
-      let w : d ≡ P ++ (front (h .r) ++ (back k (h .r .elements) ++ (L ++ drop n d))) = sym (take-append-drop n d) ∙ ap (λ (z : List ℕ). z ++ drop n d) (h .is) ∙ simp append-assoc in
-      (h .fits, (L ++ drop n d, ap (drop (startOf rs k)) w ∙ drop-at P _ (startOf rs k) (h .starts)))
+      let w : d ≡ P ++ (rule p k .write (h .r) ++ L) = sym (take-append-drop n d) ∙ ap (λ (z : List ℕ). z ++ drop n d) (h .is) ∙ rw (rule-is p k (h .r)) (simp append-assoc) in
+      (L, record { fit = h .fits; is = ap (drop (startOf rs k)) w ∙ drop-at P _ (startOf rs k) (h .starts) })
 
   pub name-ends : {k : ℕ} (h : Here p (take n d) rs k) → nameEnd d (startOf rs k) ≡ startOf rs k + 4 + length (string .write (h .r .name))
   name-ends {k} h = name-end d (startOf rs k) p k (h .r) (here-in h)

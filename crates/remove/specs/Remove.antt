@@ -15,6 +15,7 @@ use Rattle.format.specs.Format.{Bytes, bytes-drop}
 use Rattle.format.specs.Number.{number, spelt, length-spelt}
 use Rattle.format.specs.Each.{eachWrite}
 use Rattle.format.specs.Seen.{seen, itself, told-got, unlike}
+use Rattle.format.specs.Skip.{startIn}
 use Rattle.text.specs.Text.{string}
 use Rattle.kind.specs.declared.Product.{Product}
 use Rattle.element.specs.Element.{Element}
@@ -181,14 +182,14 @@ size-bound s at bs e h =
 
 first-holds : (d : List ℕ) (n m : ℕ) (p : Product) (rs : List Rule) {b e size : ℕ} {y : List ℕ} (h : Here p (take n d) rs 1) → n ≤ length d → b ≡ startOf rs 1 → 23 ≤ b → e ≡ b + 4 + length (string .write (h .r .name)) → size ≡ sizeOf 1 (h .r .elements)
     → y ≡ putIn (led d n b (e + 26) size) 5 (spelt 2 m) → Holds y (ledDeck m (h .r) (h .later)) (max n (n - (e + 26 + 2 - (e + 26 - (b - 7))) + 18)) d
-unfolding before back startOf
+unfolding before back startOf startIn rules
 first-holds d n m p rs {b} {e} {size} h w eb wide ee es ey =
     let r = h .r in
     rw (← es) (led-holds size m opening (spelt 2 (length rs)) (rules 0 (take 1 rs)) (front r) (spelt 4 (sizeOf 1 (r .elements))) (spelt 2 (length (r .elements))) (headBytes 1) (inner (r .elements) ++ rules (1 + 1) (h .later))
     w (h .is ∙ simp append-assoc) opening-long (length-spelt 2 (length rs)) (length-spelt 4 (sizeOf 1 (r .elements))) (length-spelt 2 (length (r .elements))) (head-short 1 (omega arith)) (sym eb) wide (omega (arith, front-long r)) ey)
 
 first-long : (d : List ℕ) (n m : ℕ) (p : Product) (rs : List Rule) (h : Here p (take n d) rs 1) → n ≤ length d → length (ledDeck m (h .r) (h .later)) ≡ n - (startOf rs 1 - 7) + 16
-unfolding sizeOf startOf
+unfolding sizeOf startOf startIn rules
 first-long d n m p rs h w =
     let F = front (h .r) in
     let I = inner (h .r .elements) in

@@ -1,5 +1,5 @@
 -- The parts of a written rule, which are the same in both editions.
-use Prim.Native.Nat.{ℕ, _+_, _<_, _^_}
+use Prim.Native.Nat.{ℕ, _+_, _<_}
 use native.Mathlib.Omega.{arith}
 use mathlib.Core.Path.{_≡_, refl, sym, ap, _∙_}
 use mathlib.Core.Bool.{Bool, true, false}
@@ -66,17 +66,7 @@ pub rule-is : (p : Product) (i : ℕ) (r : Rule) → rule p i .write r ≡ front
 unfolding rule fields fromUnknown2 fromUnknown4 sized measured flag via judged seq pair pairWrite number kept front back
 rule-is p i r = rw (body-size p i (r .elements), body-is p i (r .elements)) (simp append-assoc)
 
--- a rule that fits has a Data Size of four bytes
-pub size-small : (p : Product) (i : ℕ) (r : Rule) → rule p i .Fit r → sizeOf i (r .elements) < 256 ^ 4
-unfolding rule fields fromUnknown2 fromUnknown4 sized measured seq via judged pair number
-size-small p i r f = rw body-size at (f .0 .1 .1 .1 .1 .1 .1 .1 .0 .0 .0)
-
--- and a name that is a String
-pub name-fits : (p : Product) (i : ℕ) (r : Rule) → rule p i .Fit r → string .Fit (r .name)
-unfolding rule fields via seq pair
-name-fits p i r f = f .0 .1 .0
-
-pub kept-long : (r : Rule) → length (kept r) ≡ 20
+kept-long : (r : Rule) → length (kept r) ≡ 20
 unfolding kept
 kept-long r = simp (length-append, length-spelt)
 

@@ -138,6 +138,7 @@ pub record RuleParts (p : Product) (i : ℕ) (s : List ℕ) (at : ℕ) (x : Rule
   pub three : Held (number 4) s (end + 8) (x .unknown3)
   pub four : Held (number 4) s (end + 12) (x .unknown4)
   pub five : Held (number 4) s (end + 16) (x .unknown5)
+  pub sizes : Held (number 4) s (end + 20) (length (body p i .write (x .elements)))
   pub bodied : Stands (body p i) s (end + 24) (x .elements) u
   pub ends : end + 24 + length (body p i .write (x .elements)) ≡ at + ruleBytes p i x
   pub begins : end + 24 + 2 + length (head i .write tt) ≡ elementsAt p i at x
@@ -182,6 +183,7 @@ module _ (p : Product) (i : ℕ) (s : List ℕ) (at : ℕ) (x : Rule) (u : List 
         three = four s (q + 8) (x .unknown3) w5 u (g .1 .0) e4;
         four = four s (q + 12) (x .unknown4) w6 u (g .1 .1 .0) e5;
         five = four s (q + 16) (x .unknown5) w7 u (g .1 .1 .1 .0) e6;
+        sizes = four s (q + 20) (length w8) w8 u (g .1 .1 .1 .1 .0 .0 .0) e7;
         bodied = bo;
         ends = en;
         begins = omega (arith, en, body-parts p i s (q + 24) (x .elements) u bo .ends);

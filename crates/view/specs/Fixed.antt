@@ -7,19 +7,16 @@ use mathlib.Core.Bool.{Bool, true, false}
 use mathlib.Core.List.{List}
 use lib.Dec.{eqb}
 use lib.ListN.{length}
-use Rattle.format.specs.declared.Fault.{Fault}
 use Rattle.format.specs.declared.Read.{Read}
 use Rattle.format.specs.declared.Read.the-variants as Read
 use Rattle.format.specs.Format.{pick}
 use Rattle.format.specs.Number.{number, bit}
 use Rattle.format.specs.Seen.{seen, itself}
-use Rattle.format.specs.Back.{Where, back-got, back-no, stands-room}
-use Rattle.format.specs.Skip.{Skipped}
-use Rattle.text.specs.Text.{string}
-use Rattle.kind.specs.declared.Product.{Product}
+use Rattle.format.specs.Back.{Where, back-got, stands-room}
 use Rattle.rule.specs.Rule.{Rule, rule}
 use Rattle.rule.specs.Places.{rule-parts}
-use Rattle.view.specs.Asked.{asked, Finds, finds}
+use Rattle.locate.specs.Steps.{nameEnd, name-end, Reached}
+use Rattle.view.specs.Asked.{asked, Tells, finds}
 use Rattle.rule.specs.declared.Fields.{Fields}
 use Rattle.view.specs.declared.Fielded.{Fielded}
 use Rattle.view.specs.declared.Fielded.the-variants.{Is, No}
@@ -49,33 +46,22 @@ unfolding bit pick
 eqb-bit true = refl
 eqb-bit false = refl
 
-module _ (p : Product) (s : List ℕ) (k at : ℕ) where
+-- e is where the name ends
+module _ (s : List ℕ) (k at : ℕ) {e : ℕ} where
   -- the numbers a to g stand where the fields do
-  pub fixed-is : (a b c d f g : ℕ) {t : Read} {n e : ℕ} → Skipped (rule p) s 7 k k at → t ≡ seen length string s (at + 4) → t ≡ Read.Got n e
-      → Number s at a → Number s e b → Number s (e + 4) c → Number s (e + 8) d → Number s (e + 12) f → Number s (e + 16) g
-      → Finds p s k fixedAt (Is (record { signature = a; on = eqb b 1; unknown2 = c; unknown3 = d; unknown4 = f; unknown5 = g }))
+  pub fixed-is : (a b c d f g : ℕ) → Reached s k k at → e ≡ nameEnd s at → Number s at a → Number s e b → Number s (e + 4) c → Number s (e + 8) d → Number s (e + 12) f → Number s (e + 16) g
+      → Tells s k fixedAt (Is (record { signature = a; on = eqb b 1; unknown2 = c; unknown3 = d; unknown4 = f; unknown5 = g }))
   unfolding Where
-  fixed-is a b c d f g w x h na nb nc nd nf ng = finds p s k at fixedAt _ w (λ r o.
+  fixed-is a b c d f g w n na nb nc nd nf ng p = finds p s k at fixedAt _ w (λ r o.
       let y = rule-parts p k s at r (o .0) (o .1) in
-      let z = back-got length string s (at + 4) (y .named .1) x h .1 in
+      let z = n ∙ name-end s at p k r o in
       same (na (r .signature) (y .signed)) (ap (λ (v : ℕ). eqb v 1) (nb (bit (r .on)) (rw z (y .switched))) ∙ eqb-bit (r .on)) (nc (r .unknown2) (rw z (y .two))) (nd (r .unknown3) (rw z (y .three))) (nf (r .unknown4) (rw z (y .four))) (ng (r .unknown5) (rw z (y .five))))
     where
       same : {a a′ c c′ d d′ f f′ g g′ : ℕ} {b b′ : Bool} → a ≡ a′ → b ≡ b′ → c ≡ c′ → d ≡ d′ → f ≡ f′ → g ≡ g′
           → Is (record { signature = a; on = b; unknown2 = c; unknown3 = d; unknown4 = f; unknown5 = g }) ≡ Is (record { signature = a′; on = b′; unknown2 = c′; unknown3 = d′; unknown4 = f′; unknown5 = g′ })
       same a b c d f g = rw (a, b, c, d, f, g)
 
-  -- what can't be in a sound deck: no signature, no name behind it, or fewer than 20 bytes behind the name
-  module _ (v : Fielded) where
-    pub fixed-past : Skipped (rule p) s 7 k k at → length s - at < 4 → Finds p s k fixedAt v
-    unfolding Where
-    fixed-past w l = finds p s k at fixedAt v w (λ r b. absurd (omega (arith, stands-room (rule p k) s at (b .1), rule-parts p k s at r (b .0) (b .1) .ends)))
-
-    pub fixed-nameless : {t : Read} {x : Fault} {q : ℕ} → Skipped (rule p) s 7 k k at → t ≡ seen length string s (at + 4) → t ≡ Read.No x q → Finds p s k fixedAt v
-    unfolding Where
-    fixed-nameless w f h = finds p s k at fixedAt v w (λ r b. back-no length string s (at + 4) (rule-parts p k s at r (b .0) (b .1) .named .1) f h)
-
-    pub fixed-short : {t : Read} {n e : ℕ} → Skipped (rule p) s 7 k k at → t ≡ seen length string s (at + 4) → t ≡ Read.Got n e → length s - e < 20 → Finds p s k fixedAt v
-    unfolding Where
-    fixed-short w f h m = finds p s k at fixedAt v w (λ r b.
-        let y = rule-parts p k s at r (b .0) (b .1) in
-        absurd (omega (arith, back-got length string s (at + 4) (y .named .1) f h .1, stands-room (rule p k) s at (b .1), y .ends)))
+  -- never, in a sound deck
+  pub fixed-short : (v : Fielded) → Reached s k k at → e ≡ nameEnd s at → length s - e < 20 → Tells s k fixedAt v
+  unfolding Where
+  fixed-short v w n l p = finds p s k at fixedAt v w (λ r b. absurd (omega (arith, n, name-end s at p k r b, stands-room (rule p k) s at (b .1), rule-parts p k s at r (b .0) (b .1) .ends)))

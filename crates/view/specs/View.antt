@@ -11,12 +11,11 @@ use Rattle.format.specs.declared.Read.{Read}
 use Rattle.format.specs.declared.Read.the-variants as Read
 use Rattle.format.specs.Seen.{seen}
 use Rattle.format.specs.Back.{Where, stands-seen, stands-room}
-use Rattle.format.specs.Skip.{Skipped}
 use Rattle.text.specs.Text.{stringLength, string, string-length}
-use Rattle.kind.specs.declared.Product.{Product}
 use Rattle.rule.specs.Rule.{Rule, rule}
 use Rattle.rule.specs.Places.{unitsAt, rule-parts}
-use Rattle.view.specs.Asked.{asked, Finds, finds}
+use Rattle.locate.specs.Steps.{Reached}
+use Rattle.view.specs.Asked.{asked, Tells, finds}
 use Rattle.view.specs.declared.View.{View}
 use Rattle.view.specs.declared.View.the-variants.{At, No}
 
@@ -74,14 +73,14 @@ module _ (len : ℕ) {t : Read} where
       let z : q + length (string .write us) - 2 * length us ≡ q + length (stringLength .write (length us)) = omega arith in
       w (length us) (q + length (string .write us)) e (omega arith) l ∙ ap (λ (a : ℕ). At a (2 * length us)) z
 
-module _ (p : Product) (s : List ℕ) (k at : ℕ) where
-  pub name-past : (v : View) → Skipped (rule p) s 7 k k at → length s - at < 4 → Finds p s k nameAt v
+module _ (s : List ℕ) (k at : ℕ) where
+  pub name-past : (v : View) → Reached s k k at → length s - at < 4 → Tells s k nameAt v
   unfolding Where
-  name-past v w l = finds p s k at nameAt v w (λ r b. absurd (omega (arith, stands-room (rule p k) s at (b .1), rule-parts p k s at r (b .0) (b .1) .ends)))
+  name-past v w l p = finds p s k at nameAt v w (λ r b. absurd (omega (arith, stands-room (rule p k) s at (b .1), rule-parts p k s at r (b .0) (b .1) .ends)))
 
-  pub name-is : {t : Read} (v : View) → Skipped (rule p) s 7 k k at → t ≡ seen length string s (at + 4) → Units (length s) t v → Finds p s k nameAt v
+  pub name-is : {t : Read} (v : View) → Reached s k k at → t ≡ seen length string s (at + 4) → Units (length s) t v → Tells s k nameAt v
   unfolding Where
-  name-is v w e h = finds p s k at nameAt v w (λ r b.
+  name-is v w e h p = finds p s k at nameAt v w (λ r b.
       let y = rule-parts p k s at r (b .0) (b .1) in
       units-of (length s) v (at + 4) (r .name) h (e ∙ stands-seen length string s (at + 4) (y .named .1)) (omega (arith, stands-room (rule p k) s at (b .1), y .ends)))
 

@@ -14,28 +14,12 @@ ghost use Rattle.format.specs.Skip.{Skipped};
 ghost use Rattle.format.specs.Back.{Where};
 ghost use Rattle.text.specs.Text.{word};
 ghost use Rattle.element.specs.Data.{wordData, dataOf};
-ghost use Rattle.rule.specs.Rule.{rule, placed as inRule};
-ghost use Rattle.view.specs.Asked.{Finds};
+ghost use Rattle.rule.specs.Rule.{rule};
+ghost use Rattle.walk.specs.Elements.{Carries};
+ghost use Rattle.view.specs.Asked.{Finds, Tells};
 ghost use Rattle.view.specs.Fixed.{Number, fixedAt, fixedFields};
-ghost use Rattle.view.specs.Word.{Words, Identifies, WordOf, Counts, Elements, dataWord, ruleWord, wordView};
+ghost use Rattle.view.specs.Word.{Words, dataWord, ruleWord, wordView};
 ghost use Rattle.view.specs.View.{Units, Inside, nameAt, nameView, shown, placed};
-
-// Where rule k of a sound deck starts.
-fn start_of(s: &[u8], product: Product, k: u64) -> usize
-    ensures { λ r. ⌜ Skipped (rule product) (now (s .entry)) 7 k k r ⌝ }
-{
-    let mut i = 0;
-    let mut p = 7;
-    while i < k {
-        let r = rule::rule_at(s, p, product, i);
-        let Read::Got(_, q) = r else {
-            return 0;
-        };
-        p = q;
-        i += 1;
-    }
-    p
-}
 
 // What a view answers: its first byte and how many bytes it is; or a fault with its place.
 pub enum View {
@@ -61,10 +45,10 @@ fn units_of(s: &[u8], t: Read) -> View
 }
 
 // The name of rule k of a sound deck.
-fn name_at(s: &[u8], product: Product, k: u64) -> View
-    ensures { λ v. ⌜ Finds product (now (s .entry)) k nameAt v × Inside v (length (now (s .entry))) ⌝ }
+fn name_at(s: &[u8], k: u64) -> View
+    ensures { λ v. ⌜ Tells (now (s .entry)) k nameAt v × Inside v (length (now (s .entry))) ⌝ }
 {
-    let at = start_of(s, product, k);
+    let at = locate::start_of(s, k);
     if wire::left(s, at) < 4 {
         return View::No(Fault::Cut, at);
     }
@@ -76,10 +60,6 @@ fn name_at(s: &[u8], product: Product, k: u64) -> View
 pub fn find_name(edition: u64, s: &[u8], k: u64) -> View
     ensures { λ v. ⌜ (v ≡ nameView edition k (now (s .entry))) × Inside v (length (now (s .entry))) ⌝ }
 {
-    let e = kind::edition_of(edition);
-    let Edition::Of(product) = e else {
-        return View::No(Fault::Edition, 0);
-    };
     let c = deck::pass(edition, s);
     match c {
         Scan::No(d, p) => View::No(d, p),
@@ -87,7 +67,7 @@ pub fn find_name(edition: u64, s: &[u8], k: u64) -> View
             if n <= k {
                 return View::No(Fault::Absent, 0);
             }
-            name_at(s, product, k)
+            name_at(s, k)
         }
     }
 }
@@ -185,24 +165,11 @@ fn data_word(s: &[u8], at: usize, kind: Kind, w: u64) -> View
     }
 }
 
-// The identifier of the element at place j of its rule, behind its 8001; it ends where its data start.
-fn identifier_at(s: &[u8], at: usize, j: u64) -> Read
-    ensures { λ r. ⌜ Identifies (now (s .entry)) at j r ⌝ }
-{
-    if j == 0 {
-        return wire::u32_at(s, at);
-    }
-    if wire::left(s, at) < 2 {
-        return Read::No(Fault::Cut, at);
-    }
-    wire::u32_at(s, at + 2)
-}
-
 // Word w of the element at place e of its rule.
 fn element_word(s: &[u8], at: usize, product: Product, e: u64, w: u64) -> View
-    ensures { λ v. ⌜ WordOf product (now (s .entry)) at e w v × Inside v (length (now (s .entry))) ⌝ }
+    ensures { λ v. ⌜ Carries product (now (s .entry)) at e (dataWord w) v × Inside v (length (now (s .entry))) ⌝ }
 {
-    let r = identifier_at(s, at, e);
+    let r = walk::identifier_at(s, at, e);
     let Read::Got(id, q) = r else {
         return View::No(Fault::Cut, at);
     };
@@ -213,67 +180,18 @@ fn element_word(s: &[u8], at: usize, product: Product, e: u64, w: u64) -> View
     data_word(s, q, kind, w)
 }
 
-// Where element e of a row of elements starts.
-fn element_start(s: &[u8], at: usize, product: Product, e: u64) -> usize
-    ensures { λ r. ⌜ Skipped (inRule product) (now (s .entry)) at e e r ⌝ }
-{
-    let mut j = 0;
-    let mut p = at;
-    while j < e {
-        let r = rule::placed_at(s, p, product, j);
-        let Read::Got(_, q) = r else {
-            return 0;
-        };
-        p = q;
-        j += 1;
-    }
-    p
-}
-
-// The number of elements of rule i, and where they start behind its head.
-fn counted_at(s: &[u8], at: usize, i: u64) -> Read
-    ensures { λ r. ⌜ Counts (now (s .entry)) at i r ⌝ }
-{
-    let c = wire::u16_at(s, at);
-    let Read::Got(n, p) = c else {
-        return c;
-    };
-    let h = rule::head_at(s, p, i);
-    let Read::Got(_, q) = h else {
-        return h;
-    };
-    Read::Got(n, q)
-}
-
-// The same, from the start of rule i.
-fn elements_of(s: &[u8], at: usize, i: u64) -> Read
-    ensures { λ r. ⌜ Elements (now (s .entry)) at i r ⌝ }
-{
-    if wire::left(s, at) < 4 {
-        return Read::No(Fault::Cut, at);
-    }
-    let t = text::string_at(s, at + 4);
-    let Read::Got(_, e) = t else {
-        return t;
-    };
-    if wire::left(s, e) < 24 {
-        return Read::No(Fault::Cut, at);
-    }
-    counted_at(s, e + 24, i)
-}
-
 // Word w of element e of rule k, which starts at a place.
 fn rule_word(s: &[u8], at: usize, product: Product, k: u64, e: u64, w: u64) -> View
     ensures { λ v. ⌜ Where (rule product k) (now (s .entry)) at (ruleWord k e w product at) v × Inside v (length (now (s .entry))) ⌝ }
 {
-    let c = elements_of(s, at, k);
+    let c = walk::elements_of(s, at, k);
     let Read::Got(n, p) = c else {
         return View::No(Fault::Cut, at);
     };
     if n <= e {
         return View::No(Fault::Absent, 1);
     }
-    let q = element_start(s, p, product, e);
+    let q = walk::element_start(s, p, product, e);
     element_word(s, q, product, e, w)
 }
 
@@ -281,7 +199,7 @@ fn rule_word(s: &[u8], at: usize, product: Product, k: u64, e: u64, w: u64) -> V
 fn word_of(s: &[u8], product: Product, k: u64, e: u64, w: u64) -> View
     ensures { λ v. ⌜ Finds product (now (s .entry)) k (ruleWord k e w product) v × Inside v (length (now (s .entry))) ⌝ }
 {
-    let at = start_of(s, product, k);
+    let at = locate::start_of(s, k);
     rule_word(s, at, product, k, e, w)
 }
 
@@ -339,17 +257,11 @@ fn number_at(s: &[u8], at: usize) -> u32
 }
 
 // The fixed fields of rule k of a sound deck.
-fn fields_at(s: &[u8], product: Product, k: u64) -> Fielded
-    ensures { λ v. ⌜ Finds product (now (s .entry)) k fixedAt v ⌝ }
+fn fields_at(s: &[u8], k: u64) -> Fielded
+    ensures { λ v. ⌜ Tells (now (s .entry)) k fixedAt v ⌝ }
 {
-    let at = start_of(s, product, k);
-    if wire::left(s, at) < 4 {
-        return Fielded::No(Fault::Cut, at);
-    }
-    let t = text::string_at(s, at + 4);
-    let Read::Got(_, e) = t else {
-        return Fielded::No(Fault::Cut, at);
-    };
+    let at = locate::start_of(s, k);
+    let e = locate::name_end(s, at);
     if wire::left(s, e) < 20 {
         return Fielded::No(Fault::Cut, at);
     }
@@ -367,10 +279,6 @@ fn fields_at(s: &[u8], product: Product, k: u64) -> Fielded
 pub fn fixed(edition: u64, s: &[u8], k: u64) -> Fielded
     ensures { λ v. ⌜ v ≡ fixedFields edition k (now (s .entry)) ⌝ }
 {
-    let e = kind::edition_of(edition);
-    let Edition::Of(product) = e else {
-        return Fielded::No(Fault::Edition, 0);
-    };
     let c = deck::pass(edition, s);
     match c {
         Scan::No(d, p) => Fielded::No(d, p),
@@ -378,7 +286,7 @@ pub fn fixed(edition: u64, s: &[u8], k: u64) -> Fielded
             if n <= k {
                 return Fielded::No(Fault::Absent, 0);
             }
-            fields_at(s, product, k)
+            fields_at(s, k)
         }
     }
 }

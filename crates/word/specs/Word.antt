@@ -4,8 +4,8 @@ use native.Mathlib.Omega.{arith}
 use mathlib.Core.Path.{_≡_, refl, sym, ap, _∙_}
 use mathlib.Core.Bool.{true, false}
 use mathlib.Core.List.{List, [], _∷_, _++_, append-assoc, append-nil}
-use lib.ListN.{length, take, drop, length-append, take-append-drop}
-use lib.Seq.{length-take-le}
+use lib.ListN.{length, take, drop, length-append, length-drop, take-append-drop}
+use lib.Seq.{length-take-le, take-add}
 use Rattle.format.specs.declared.Fault.{Fault}
 use Rattle.format.specs.declared.Fault.the-variants as Fault
 use Rattle.format.specs.declared.Outcome.{Outcome}
@@ -16,6 +16,7 @@ use Rattle.format.specs.Format.{Bytes}
 use Rattle.format.specs.Join.{pair, pairWrite, judged, via, seq, _then_}
 use Rattle.format.specs.Number.{number, spelt, length-spelt, fixed}
 use Rattle.format.specs.Each.{eachWrite, each-append}
+use Rattle.format.specs.Back.{Where}
 use Rattle.text.specs.Text.{string, word}
 use Rattle.kind.specs.declared.Product.{Product}
 use Rattle.kind.specs.declared.Product.the-variants.{Studio}
@@ -24,21 +25,21 @@ use Rattle.kind.specs.declared.Row.the-variants as Row
 use Rattle.kind.specs.Kinds.{kinds, rowIn}
 use Rattle.element.specs.Data.{words}
 use Rattle.element.specs.Element.{Element}
-use Rattle.rule.specs.Rule.{Rule, rule-fits}
+use Rattle.rule.specs.Rule.{Rule, rule, rule-fits}
 use Rattle.rule.specs.Parts.{kept, front, back, headBytes, inner, sizeOf}
 use Rattle.deck.specs.Written.{written, before, startOf}
 use Rattle.buffer.specs.Laid.{putIn, put-both}
 use Rattle.buffer.specs.Holds.{Holds, holds-put, holds-behind}
 use Rattle.locate.specs.Located.{lastOf}
-use Rattle.locate.specs.Steps.{Here, nameEnd}
+use Rattle.locate.specs.Steps.{Here, here, nameEnd, name-end}
 use Rattle.plan.specs.Given.{isText, units}
 use Rattle.plan.specs.Edit.{Plan, become, addWord, edited, holding, atList, unlessFull, ifText}
 use Rattle.plan.specs.Found.{MakesAs, Does}
 use Rattle.plan.specs.Last.{rules-none, among, as-many, on-none, on-last}
-use Rattle.plan.specs.Makes.{written-here, if-text, no-text, full, not-full, made-no, made-large, made-room, made-is}
+use Rattle.plan.specs.Makes.{here-in, written-here, if-text, no-text, full, not-full, made-no, made-large, made-room, made-is}
 use Rattle.parts.specs.Text.{textBytes, textSize, text-size, text-is}
 use Rattle.add.specs.Element.{last-is, front-ends, size-ends, inner-more}
-use Rattle.word.specs.List.{sepOf, placed-is, list-written, WordsAt, Lists, lastPlace}
+use Rattle.word.specs.List.{lastList, leading, list-written, EndsInList, ends-in-list, list-none}
 
 -- 4 zero bytes and a String
 unfoldable pub wordBytes : List ℕ → List ℕ
@@ -57,46 +58,42 @@ unfolding wordBytes
 word-put d at s e f h = let l = length-spelt 4 0 in put-both d at (spelt 4 0) (textBytes s) e f (omega arith) (omega arith)
 
 -- ---- the elements, the last of which is a list
-list-inner : (xs : List Element) (id : ℕ) (ws : List (List ℕ)) → rowIn kinds id ≡ Row.Is Kind.WordList
-    → inner (xs ++ ((id, words ws) ∷ [])) ≡ inner xs ++ (sepOf (length xs) ++ (spelt 4 id ++ (spelt 4 (length ws) ++ eachWrite (λ i. word) 0 ws)))
-list-inner xs id ws e = inner-more xs (id, words ws) ∙ ap (λ (t : List ℕ). inner xs ++ t) (placed-is Studio (length xs) (id, words ws) ∙ ap (λ (t : List ℕ). sepOf (length xs) ++ t) (list-written Studio id ws e))
+list-inner : (xs : List Element) (id : ℕ) (ws : List (List ℕ)) → rowIn kinds id ≡ Row.Is Kind.WordList → inner (xs ++ ((id, words ws) ∷ [])) ≡ (inner xs ++ leading (length xs) id) ++ (spelt 4 (length ws) ++ eachWrite (λ i. word) 0 ws)
+list-inner xs id ws e = inner-more xs (id, words ws) ∙ ap (λ (t : List ℕ). inner xs ++ t) (list-written Studio (length xs) id ws e) ∙ sym (append-assoc (inner xs) (leading (length xs) id) (spelt 4 (length ws) ++ eachWrite (λ i. word) 0 ws))
 
 words-more : (ws : List (List ℕ)) (s : List ℕ) → textBytes s ≡ string .write (units s) → eachWrite (λ i. word) 0 (ws ++ (units s ∷ [])) ≡ eachWrite (λ i. word) 0 ws ++ wordBytes s
 unfolding eachWrite
 words-more ws s e = each-append (λ i. word) 0 ws (units s ∷ []) ∙ rw (append-nil, word-is s e)
 
 -- the back of the rule, before and after
-module _ (k : ℕ) (els : List Element) {x : Element} (e : ℕ) {c t : ℕ} (o : WordsAt x (length els - 1) (lastPlace k e els) c t) (f : drop (length els - 1) els ≡ x ∷ []) (l : 0 < length els) where
+module _ (k : ℕ) (els : List Element) (e : ℕ) {c t : ℕ} (o : EndsInList k e els c t) (l : 0 < length els) where
   init-long : length (take (length els - 1) els) ≡ length els - 1
   init-long = length-take-le (length els - 1) els (omega arith)
 
-  elements-are : els ≡ take (length els - 1) els ++ ((x .0, words (o .ws)) ∷ [])
-  elements-are = sym (take-append-drop (length els - 1) els) ∙ ap (λ (z : List Element). take (length els - 1) els ++ z) (f ∙ ap (λ (y : Element). y ∷ []) (o .is))
+  elements-are : els ≡ take (length els - 1) els ++ ((o .id, words (o .ws)) ∷ [])
+  elements-are = sym (take-append-drop (length els - 1) els) ∙ ap (λ (z : List Element). take (length els - 1) els ++ z) (o .is)
 
   -- the elements up to the number of words
   abbrev upTo : List ℕ
-  upTo = inner (take (length els - 1) els) ++ (sepOf (length els - 1) ++ spelt 4 (x .0))
+  upTo = inner (take (length els - 1) els) ++ leading (length els - 1) (o .id)
 
   inner-is : inner els ≡ upTo ++ (spelt 4 c ++ eachWrite (λ i. word) 0 (o .ws))
   inner-is =
-      let i = list-inner (take (length els - 1) els) (x .0) (o .ws) (o .row) in
-      ap inner elements-are ∙ (rw (init-long, ← o .many) at i) ∙ simp append-assoc
+      let i = list-inner (take (length els - 1) els) (o .id) (o .ws) (o .row) in
+      ap inner elements-are ∙ (rw (init-long, ← o .many) at i)
 
-  inner-longer : (s : List ℕ) → textBytes s ≡ string .write (units s) → inner (take (length els - 1) els ++ ((x .0, words (o .ws ++ (units s ∷ []))) ∷ [])) ≡ upTo ++ (spelt 4 (c + 1) ++ (eachWrite (λ i. word) 0 (o .ws) ++ wordBytes s))
+  inner-longer : (s : List ℕ) → textBytes s ≡ string .write (units s) → inner (take (length els - 1) els ++ ((o .id, words (o .ws ++ (units s ∷ []))) ∷ [])) ≡ upTo ++ (spelt 4 (c + 1) ++ (eachWrite (λ i. word) 0 (o .ws) ++ wordBytes s))
   inner-longer s b =
-      let i = list-inner (take (length els - 1) els) (x .0) (o .ws ++ (units s ∷ [])) (o .row) in
+      let i = list-inner (take (length els - 1) els) (o .id) (o .ws ++ (units s ∷ [])) (o .row) in
       let m : length (o .ws ++ (units s ∷ [])) ≡ c + 1 = length-append (o .ws) (units s ∷ []) ∙ ap (λ (v : ℕ). v + 1) (sym (o .many)) in
-      (rw (init-long, words-more (o .ws) s b, m) at i) ∙ simp append-assoc
-
-  up-long : e + 26 + length (headBytes k) + length upTo ≡ t
-  up-long = omega (arith, o .place, length-append (inner (take (length els - 1) els)) (sepOf (length els - 1) ++ spelt 4 (x .0)), length-append (sepOf (length els - 1)) (spelt 4 (x .0)), length-spelt 4 (x .0))
+      rw (init-long, words-more (o .ws) s b, m) at i
 
   -- one more word
   abbrev longer : List ℕ → List Element
-  longer s = take (length els - 1) els ++ ((x .0, words (o .ws ++ (units s ∷ []))) ∷ [])
+  longer s = take (length els - 1) els ++ ((o .id, words (o .ws ++ (units s ∷ []))) ∷ [])
 
   longer-many : (s : List ℕ) → length (longer s) ≡ length els
-  longer-many s = length-append (take (length els - 1) els) ((x .0, words (o .ws ++ (units s ∷ []))) ∷ []) ∙ omega (arith, init-long)
+  longer-many s = length-append (take (length els - 1) els) ((o .id, words (o .ws ++ (units s ∷ []))) ∷ []) ∙ omega (arith, init-long)
 
   -- what is behind the number of words
   abbrev tail : List ℕ → List ℕ
@@ -119,22 +116,22 @@ module _ (k : ℕ) (els : List Element) {x : Element} (e : ℕ) {c t : ℕ} (o :
 -- whatever sound deck is in the first n bytes, its last rule having a name that ends at e and for last element a list of c words, whose number stands at t: the word is added
 unfoldable pub Lengthens : ℕ → ℕ → ℕ → ℕ → List ℕ → List ℕ → Outcome → List ℕ → Type 0
 Lengthens n e t c s d r d′ =
-    (p : Product) (rs : List Rule) (k : ℕ) (x : Element) (h : Here p (take n d) rs k) (o : WordsAt x (length (h .r .elements) - 1) (lastPlace k e (h .r .elements)) c t) → drop (length (h .r .elements) - 1) (h .r .elements) ≡ x ∷ [] → h .later ≡ [] → n ≤ length d → length rs ≤ 256
+    (p : Product) (rs : List Rule) (k : ℕ) (h : Here p (take n d) rs k) (o : EndsInList k e (h .r .elements) c t) → h .later ≡ [] → n ≤ length d → length rs ≤ 256
     → e ≡ startOf rs k + 4 + length (string .write (h .r .name)) → textBytes s ≡ string .write (units s)
-    → Does n (become (take k rs ++ (holding (take (length (h .r .elements) - 1) (h .r .elements) ++ ((x .0, words (o .ws ++ (units s ∷ []))) ∷ [])) (h .r) ∷ []))) d r d′
+    → Does n (become (take k rs ++ (holding (take (length (h .r .elements) - 1) (h .r .elements) ++ ((o .id, words (o .ws ++ (units s ∷ []))) ∷ [])) (h .r) ∷ []))) d r d′
 
 module _ (n e t c : ℕ) (s d : List ℕ) where
-  module _ {p : Product} {rs : List Rule} {k : ℕ} {x : Element} (h : Here p (take n d) rs k) (o : WordsAt x (length (h .r .elements) - 1) (lastPlace k e (h .r .elements)) c t) (f : drop (length (h .r .elements) - 1) (h .r .elements) ≡ x ∷ []) (z : h .later ≡ []) (w : n ≤ length d) (g : e ≡ startOf rs k + 4 + length (string .write (h .r .name))) (l : 0 < length (h .r .elements)) where
+  module _ {p : Product} {rs : List Rule} {k : ℕ} (h : Here p (take n d) rs k) (o : EndsInList k e (h .r .elements) c t) (z : h .later ≡ []) (w : n ≤ length d) (g : e ≡ startOf rs k + 4 + length (string .write (h .r .name))) (l : 0 < length (h .r .elements)) where
     -- its bytes, Data Size and the number of words being S and C
     abbrev bytesWith : ℕ → ℕ → List ℕ
-    bytesWith S C = before (length rs) (take k rs) ++ (front (h .r) ++ (spelt 4 S ++ (spelt 2 (length (h .r .elements)) ++ (headBytes k ++ (upTo k (h .r .elements) e o f l ++ (spelt 4 C ++ tail k (h .r .elements) e o f l s))))))
+    bytesWith S C = before (length rs) (take k rs) ++ (front (h .r) ++ (spelt 4 S ++ (spelt 2 (length (h .r .elements)) ++ (headBytes k ++ (upTo k (h .r .elements) e o l ++ (spelt 4 C ++ tail k (h .r .elements) e o l s))))))
 
-    longer-written : (b : textBytes s ≡ string .write (units s)) → written (take k rs ++ (holding (longer k (h .r .elements) e o f l s) (h .r) ∷ [])) ≡ bytesWith (n + 4 + length (textBytes s) - (e + 24)) (c + 1)
+    longer-written : (b : textBytes s ≡ string .write (units s)) → written (take k rs ++ (holding (longer k (h .r .elements) e o l s) (h .r) ∷ [])) ≡ bytesWith (n + 4 + length (textBytes s) - (e + 24)) (c + 1)
     unfolding front kept
     longer-written b =
         let f′ : drop k rs ≡ h .r ∷ [] = h .from ∙ rw z in
-        written-here rs [] k (h .r) (holding (longer k (h .r .elements) e o f l s) (h .r)) f′ (among h)
-        ∙ rw (rules-none, append-nil, back-longer k (h .r .elements) e o f l n s b (size-ends n d h z w g))
+        written-here rs [] k (h .r) (holding (longer k (h .r .elements) e o l s) (h .r)) f′ (among h)
+        ∙ rw (rules-none, append-nil, back-longer k (h .r .elements) e o l n s b (size-ends n d h z w g))
 
     bytes-long : (S C : ℕ) → length (bytesWith S C) ≡ n + 4 + length (textBytes s)
     unfolding sizeOf
@@ -142,8 +139,8 @@ module _ (n e t c : ℕ) (s d : List ℕ) where
         let B = before (length rs) (take k rs) in
         let F = front (h .r) in
         let els = h .r .elements in
-        let I = upTo k els e o f l ++ (spelt 4 C ++ tail k els e o f l s) in
-        omega (arith, length-append B (F ++ (spelt 4 S ++ (spelt 2 (length els) ++ (headBytes k ++ I)))), length-append F (spelt 4 S ++ (spelt 2 (length els) ++ (headBytes k ++ I))), length-append (spelt 4 S) (spelt 2 (length els) ++ (headBytes k ++ I)), length-append (spelt 2 (length els)) (headBytes k ++ I), length-append (headBytes k) I, length-append B F, length-spelt 4 S, length-spelt 2 (length els), tail-long k els e o f l s C, front-ends n d h z w g, size-ends n d h z w g)
+        let I = upTo k els e o l ++ (spelt 4 C ++ tail k els e o l s) in
+        omega (arith, length-append B (F ++ (spelt 4 S ++ (spelt 2 (length els) ++ (headBytes k ++ I)))), length-append F (spelt 4 S ++ (spelt 2 (length els) ++ (headBytes k ++ I))), length-append (spelt 4 S) (spelt 2 (length els) ++ (headBytes k ++ I)), length-append (spelt 2 (length els)) (headBytes k ++ I), length-append (headBytes k) I, length-append B F, length-spelt 4 S, length-spelt 2 (length els), tail-long k els e o l s C, front-ends n d h z w g, size-ends n d h z w g)
 
     longer-holds : {y₁ y₂ y₃ y₄ : List ℕ} (S C : ℕ) → n + 4 + length (textBytes s) ≤ length d → y₁ ≡ putIn d n (spelt 4 0) → y₂ ≡ putIn y₁ (n + 4) (textBytes s) → y₃ ≡ putIn y₂ (e + 20) (spelt 4 S) → y₄ ≡ putIn y₃ t (spelt 4 C) → Holds y₄ (bytesWith S C) (n + length (wordBytes s)) d
     unfolding back
@@ -153,16 +150,17 @@ module _ (n e t c : ℕ) (s d : List ℕ) where
         let E = wordBytes s in
         let lE = word-long s in
         let e₂′ : y₂ ≡ putIn d n E = word-put d n s e₁ e₂ m in
-        let U = upTo k els e o f l in
+        let U = upTo k els e o l in
         let W = eachWrite (λ i. word) 0 (o .ws) in
         let M = spelt 2 (length els) ++ (headBytes k ++ U) in
-        let i : take n d ++ E ≡ P ++ (spelt 4 (sizeOf k els) ++ (M ++ (spelt 4 c ++ (W ++ E)))) = rw (last-is n d h z w, inner-is k els e o f l) (simp append-assoc) in
+        let i : take n d ++ E ≡ P ++ (spelt 4 (sizeOf k els) ++ (M ++ (spelt 4 c ++ (W ++ E)))) = rw (last-is n d h z w, inner-is k els e o l) (simp append-assoc) in
         let h₂ = holds-put P (spelt 4 (sizeOf k els)) (M ++ (spelt 4 c ++ (W ++ E))) (spelt 4 S) (holds-behind d n E (omega arith) e₂′) i (front-ends n d h z w g) (length-spelt 4 (sizeOf k els) ∙ sym (length-spelt 4 S)) e₃ in
         let j : P ++ (spelt 4 S ++ (M ++ (spelt 4 c ++ (W ++ E)))) ≡ (P ++ (spelt 4 S ++ M)) ++ (spelt 4 c ++ (W ++ E)) = simp append-assoc in
-        let v : length (P ++ (spelt 4 S ++ M)) ≡ t = omega (arith, length-append P (spelt 4 S ++ M), length-append (spelt 4 S) M, length-append (spelt 2 (length els)) (headBytes k ++ U), length-append (headBytes k) U, length-spelt 4 S, length-spelt 2 (length els), front-ends n d h z w g, up-long k els e o f l) in
+        let v : length (P ++ (spelt 4 S ++ M)) ≡ t = omega (arith, length-append P (spelt 4 S ++ M), length-append (spelt 4 S) M, length-append (spelt 2 (length els)) (headBytes k ++ U), length-append (headBytes k) U, length-spelt 4 S, length-spelt 2 (length els), front-ends n d h z w g, o .place) in
         let h₃ = holds-put (P ++ (spelt 4 S ++ M)) (spelt 4 c) (W ++ E) (spelt 4 C) h₂ j v (length-spelt 4 c ∙ sym (length-spelt 4 C)) e₄ in
         let q : (P ++ (spelt 4 S ++ M)) ++ (spelt 4 C ++ (W ++ E)) ≡ bytesWith S C = simp append-assoc in
         rw q at h₃
+
 
   some : {p : Product} {rs : List Rule} {k : ℕ} (h : Here p (take n d) rs k) → 0 < length (h .r .elements)
   some {p} {rs} {k} h = omega (arith, rule-fits p k (h .r) (h .fits) .0)
@@ -170,35 +168,35 @@ module _ (n e t c : ℕ) (s d : List ℕ) where
   -- never, of a sound deck
   pub lengthen-short : (size : ℕ) (r : Outcome) (d′ : List ℕ) → n + 4 + size < e + 24 → Lengthens n e t c s d r d′
   unfolding Lengthens
-  lengthen-short size r d′ u p rs k x h o f z w m g b = absurd (omega (arith, size-ends n d h z w g))
+  lengthen-short size r d′ u p rs k h o z w m g b = absurd (omega (arith, size-ends n d h z w g))
 
   -- size is what a String of the word takes
   module _ {size : ℕ} where
     pub lengthen-large : isText s ≡ true → size ≡ textSize s → 60000 < n + 4 + size → Lengthens n e t c s d (Outcome.No Fault.Large 0) d
     unfolding Lengthens
-    lengthen-large it es u p rs k x h o f z w m g b =
-        made-large n d refl (rw (as-many h _ z) m) (rw (longer-written h o f z w g (some h) b) (omega (arith, bytes-long h o f z w g (some h) (n + 4 + length (textBytes s) - (e + 24)) (c + 1), text-size s it)))
+    lengthen-large it es u p rs k h o z w m g b =
+        made-large n d refl (rw (as-many h _ z) m) (rw (longer-written h o z w g (some h) b) (omega (arith, bytes-long h o z w g (some h) (n + 4 + length (textBytes s) - (e + 24)) (c + 1), text-size s it)))
 
     pub lengthen-room : isText s ≡ true → size ≡ textSize s → n + 4 + size ≤ 60000 → length d < n + 4 + size → Lengthens n e t c s d (Outcome.No Fault.Room 0) d
     unfolding Lengthens
-    lengthen-room it es u v p rs k x h o f z w m g b =
-        let l = bytes-long h o f z w g (some h) (n + 4 + length (textBytes s) - (e + 24)) (c + 1) in
-        made-room n d refl (rw (as-many h _ z) m) (rw (longer-written h o f z w g (some h) b) (omega (arith, l, text-size s it))) (rw (longer-written h o f z w g (some h) b) (omega (arith, l, text-size s it)))
+    lengthen-room it es u v p rs k h o z w m g b =
+        let l = bytes-long h o z w g (some h) (n + 4 + length (textBytes s) - (e + 24)) (c + 1) in
+        made-room n d refl (rw (as-many h _ z) m) (rw (longer-written h o z w g (some h) b) (omega (arith, l, text-size s it))) (rw (longer-written h o z w g (some h) b) (omega (arith, l, text-size s it)))
 
     pub lengthen-done : {y₁ y₂ y₃ y₄ : List ℕ} → isText s ≡ true → size ≡ textSize s → n + 4 + size ≤ 60000 → n + 4 + size ≤ length d → y₁ ≡ putIn d n (spelt 4 0) → y₂ ≡ putIn y₁ (n + 4) (textBytes s) → y₃ ≡ putIn y₂ (e + 20) (spelt 4 (n + 4 + size - (e + 24))) → y₄ ≡ putIn y₃ t (spelt 4 (c + 1))
         → Lengthens n e t c s d (Outcome.Done (n + 4 + size)) y₄
     unfolding Lengthens
-    lengthen-done {y₃ = y₃} it es u v e₁ e₂ e₃ e₄ p rs k x h o f z w m g b =
-        let l = bytes-long h o f z w g (some h) (n + 4 + length (textBytes s) - (e + 24)) (c + 1) in
+    lengthen-done {y₃ = y₃} it es u v e₁ e₂ e₃ e₄ p rs k h o z w m g b =
+        let l = bytes-long h o z w g (some h) (n + 4 + length (textBytes s) - (e + 24)) (c + 1) in
         let ts = es ∙ text-size s it in
-        made-is n d (longer-holds h o f z w g (some h) (n + 4 + length (textBytes s) - (e + 24)) (c + 1) (omega arith) e₁ e₂ (rw ts at e₃) e₄) refl (sym (longer-written h o f z w g (some h) b))
+        made-is n d (longer-holds h o z w g (some h) (n + 4 + length (textBytes s) - (e + 24)) (c + 1) (omega arith) e₁ e₂ (rw ts at e₃) e₄) refl (sym (longer-written h o z w g (some h) b))
         (omega arith) (omega (arith, word-long s)) (rw (as-many h _ z) m) u
 
 -- ---- what is judged before
 
-at-words : (x : Element) (ws : List (List ℕ)) (g : ℕ → List (List ℕ) → Plan) → x ≡ (x .0, words ws) → atList (x ∷ []) g ≡ g (x .0) ws
+at-words : {k e : ℕ} {els : List Element} {c t : ℕ} (o : EndsInList k e els c t) (g : ℕ → List (List ℕ) → Plan) → atList (drop (length els - 1) els) g ≡ g (o .id) (o .ws)
 unfolding atList
-at-words (id, v) ws g e = let z : v ≡ words ws = ap (λ (y : Element). y .1) e in rw z
+at-words o g = rw (o .is)
 
 -- the last rule with a word more in the list that is its last element
 abbrev withWord : List ℕ → List Rule → ℕ → Rule → Plan
@@ -211,29 +209,29 @@ module _ (p : Product) (n m a : ℕ) (s d : List ℕ) where
   word-none e = on-none p n m a d (addWord s) (withWord s) (λ rs. refl) e
 
   -- y is what was told of the list
-  module _ {e : ℕ} {y : Read} where
-    pub word-no-list : {c : Fault} {q : ℕ} → (m ≡ 0 → ⊥) → e ≡ nameEnd d a → Lists p n (m - 1) e d y → y ≡ Read.No c q → MakesAs p lastOf n m a (addWord s) d (Outcome.No Fault.Last 0) d
-    unfolding Lists edited
-    word-no-list {c} {q} l g li k = on-last p n m a d (addWord s) (withWord s) (λ rs. refl) _ _ l g (λ rs h z w v e′. let u = li rs h z w e′ in rw (u .1 .0) (made-no n d (u .1 .1 .1 c q k _)))
+  module _ {e : ℕ} {y : Read} (l : m ≡ 0 → ⊥) (g : e ≡ nameEnd d a) (li : Where (rule p (m - 1)) d a (lastList p (m - 1) a) y) where
+    last-told : {rs : List Rule} (h : Here p (take n d) rs (m - 1)) → a ≡ startOf rs (m - 1) → y ≡ lastList p (m - 1) (startOf rs (m - 1)) (h .r)
+    unfolding Where
+    last-told h e = (rw e at li) (h .r) (here-in n d h)
 
-    module _ {c t : ℕ} where
-      pub word-full : (m ≡ 0 → ⊥) → e ≡ nameEnd d a → Lists p n (m - 1) e d y → y ≡ Read.Got c t → 64 ≤ c → MakesAs p lastOf n m a (addWord s) d (Outcome.No Fault.Full 0) d
-      unfolding Lists edited
-      word-full l g li k f = on-last p n m a d (addWord s) (withWord s) (λ rs. refl) _ _ l g (λ rs h z w v e′.
-          let u = li rs h z w e′ in
-          let o = u .1 .1 .0 c t k in
-          rw (u .1 .0) (made-no n d (at-words (u .0) (o .ws) _ (o .is) ∙ full _ _ (rw (o .many) at f))))
+    pub word-no-list : {c : Fault} {q : ℕ} → y ≡ Read.No c q → MakesAs p lastOf n m a (addWord s) d (Outcome.No Fault.Last 0) d
+    unfolding edited
+    word-no-list k = on-last p n m a d (addWord s) (withWord s) (λ rs. refl) _ _ l g (λ rs h z w v e′ a′. made-no n d (list-none _ _ _ (sym (last-told h a′) ∙ k) _))
 
-      pub word-text : (m ≡ 0 → ⊥) → e ≡ nameEnd d a → Lists p n (m - 1) e d y → y ≡ Read.Got c t → c < 64 → isText s ≡ false → MakesAs p lastOf n m a (addWord s) d (Outcome.No Fault.Text 0) d
-      unfolding Lists edited
-      word-text l g li k f b = on-last p n m a d (addWord s) (withWord s) (λ rs. refl) _ _ l g (λ rs h z w v e′.
-          let u = li rs h z w e′ in
-          let o = u .1 .1 .0 c t k in
-          rw (u .1 .0) (made-no n d (at-words (u .0) (o .ws) _ (o .is) ∙ not-full _ _ (rw (o .many) at f) ∙ no-text s _ b)))
+    module _ {c t : ℕ} (k : y ≡ Read.Got c t) where
+      is-listed : {rs : List Rule} (h : Here p (take n d) rs (m - 1)) → e ≡ startOf rs (m - 1) + 4 + length (string .write (h .r .name)) → a ≡ startOf rs (m - 1) → EndsInList (m - 1) e (h .r .elements) c t
+      is-listed {rs} h e′ a′ = ends-in-list p d (startOf rs (m - 1)) (m - 1) e (h .r) (here-in n d h) e′ (sym (last-told h a′) ∙ k)
 
-      pub word-done : (r : Outcome) (d′ : List ℕ) → (m ≡ 0 → ⊥) → e ≡ nameEnd d a → Lists p n (m - 1) e d y → y ≡ Read.Got c t → c < 64 → Bytes s → isText s ≡ true → Lengthens n e t c s d r d′ → MakesAs p lastOf n m a (addWord s) d r d′
-      unfolding Lists Lengthens edited
-      word-done r d′ l g li k f bs b x = on-last p n m a d (addWord s) (withWord s) (λ rs. refl) r d′ l g (λ rs h z w v e′.
-          let u = li rs h z w e′ in
-          let o = u .1 .1 .0 c t k in
-          rw (u .1 .0, at-words (u .0) (o .ws) _ (o .is), not-full _ _ (rw (o .many) at f), if-text s _ b) (x p rs (m - 1) (u .0) h o (u .1 .0) z w v e′ (text-is s bs b)))
+      pub word-full : 64 ≤ c → MakesAs p lastOf n m a (addWord s) d (Outcome.No Fault.Full 0) d
+      unfolding edited
+      word-full f = on-last p n m a d (addWord s) (withWord s) (λ rs. refl) _ _ l g (λ rs h z w v e′ a′. let o = is-listed h e′ a′ in made-no n d (at-words o _ ∙ full _ _ (rw (o .many) at f)))
+
+      pub word-text : c < 64 → isText s ≡ false → MakesAs p lastOf n m a (addWord s) d (Outcome.No Fault.Text 0) d
+      unfolding edited
+      word-text f b = on-last p n m a d (addWord s) (withWord s) (λ rs. refl) _ _ l g (λ rs h z w v e′ a′. let o = is-listed h e′ a′ in made-no n d (at-words o _ ∙ not-full _ _ (rw (o .many) at f) ∙ no-text s _ b))
+
+      pub word-done : (r : Outcome) (d′ : List ℕ) → c < 64 → Bytes s → isText s ≡ true → Lengthens n e t c s d r d′ → MakesAs p lastOf n m a (addWord s) d r d′
+      unfolding Lengthens edited
+      word-done r d′ f bs b x = on-last p n m a d (addWord s) (withWord s) (λ rs. refl) r d′ l g (λ rs h z w v e′ a′.
+          let o = is-listed h e′ a′ in
+          rw (at-words o _, not-full _ _ (rw (o .many) at f), if-text s _ b) (x p rs (m - 1) h o z w v e′ (text-is s bs b)))

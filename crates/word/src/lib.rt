@@ -7,103 +7,73 @@ use kind::Kind;
 use kind::Product;
 use kind::Row;
 use locate::Spot;
-ghost use Prim.Native.Nat.{ℕ, _+_, _≤_, _<_};
+ghost use Prim.Native.Nat.{_≤_, _<_};
 ghost use mathlib.Core.Path.{_≡_};
 ghost use mathlib.Core.Bool.{true};
 ghost use lib.ListN.{length};
-ghost use Rattle.kind.specs.Kinds.{rowOf};
+ghost use Rattle.format.specs.Back.{Where};
+ghost use Rattle.element.specs.Data.{wordData, dataOf};
+ghost use Rattle.rule.specs.Rule.{rule};
 ghost use Rattle.locate.specs.Located.{lastOf};
+ghost use Rattle.walk.specs.Elements.{Carries};
 ghost use Rattle.plan.specs.Given.{isText};
 ghost use Rattle.plan.specs.Edit.{addWord};
 ghost use Rattle.plan.specs.Found.{Edits, MakesAs};
-ghost use Rattle.word.specs.List.{listRow, sepOf, Walks, ListIn, Lists};
+ghost use Rattle.word.specs.List.{listOf, lastList};
 ghost use Rattle.word.specs.Word.{Lengthens};
 
-// Whether an identifier is a word list's.
-fn is_list(product: Product, identifier: u64) -> bool
-    ensures { λ r. ⌜ r ≡ listRow (rowOf product identifier) ⌝ }
+// The number of words of the data of a list, and where it stands: at their start.
+fn word_count(s: &[u8], at: usize) -> Read
+    ensures { λ r. ⌜ Where wordData (now (s .entry)) at (listOf at) r ⌝ }
 {
+    let z = wire::u32_at(s, at);
+    match z {
+        Read::Got(count, _) => Read::Got(count, at),
+        Read::No(_, _) => Read::No(Fault::Last, 0),
+    }
+}
+
+// The same of the data of a kind.
+fn list_of(s: &[u8], at: usize, kind: Kind) -> Read
+    ensures { λ r. ⌜ Where (dataOf kind) (now (s .entry)) at (listOf at) r ⌝ }
+{
+    match kind {
+        Kind::WordList => word_count(s, at),
+        Kind::Marker => Read::No(Fault::Last, 0),
+        Kind::Simple(_) => Read::No(Fault::Last, 0),
+        Kind::Size(_) => Read::No(Fault::Last, 0),
+        Kind::Dates(_) => Read::No(Fault::Last, 0),
+    }
+}
+
+// The same of the element at place j of its rule.
+fn list_in(s: &[u8], at: usize, product: Product, j: u64) -> Read
+    ensures { λ r. ⌜ Carries product (now (s .entry)) at j listOf r ⌝ }
+{
+    let x = walk::identifier_at(s, at, j);
+    let Read::Got(identifier, q) = x else {
+        return Read::No(Fault::Last, 0);
+    };
     let row = row::row_for(product, identifier);
     let Row::Is(kind) = row else {
-        return false;
-    };
-    match kind {
-        Kind::WordList => true,
-        Kind::Marker => false,
-        Kind::Simple(_) => false,
-        Kind::Size(_) => false,
-        Kind::Dates(_) => false,
-    }
-}
-
-// Where element k of a rule stands whose elements start at a place.
-fn element_from(s: &[u8], product: Product, k: u64, at: usize) -> usize
-    ensures { λ r. ⌜ Walks product (now (s .entry)) at k k r ⌝ }
-{
-    let mut j = 0;
-    let mut p = at;
-    while j < k {
-        let r = rule::placed_at(s, p, product, j);
-        let Read::Got(_, q) = r else {
-            return at;
-        };
-        p = q;
-        j += 1;
-    }
-    p
-}
-
-// How many bytes of element j stand before its data.
-fn before_data(j: u64) -> usize
-    ensures { λ r. ⌜ (r ≡ length (sepOf j) + 4) × (r ≤ 6) ⌝ }
-{
-    if j == 0 {
-        return 4;
-    }
-    6
-}
-
-// The number of words of the list that element j at a place is, and where that number stands.
-fn list_in(s: &[u8], product: Product, j: u64, t: usize) -> Read
-    ensures { λ r. ⌜ ListIn product j t (now (s .entry)) r ⌝ }
-{
-    let x = rule::placed_at(s, t, product, j);
-    let Read::Got(identifier, _) = x else {
         return Read::No(Fault::Last, 0);
     };
-    let list = is_list(product, identifier);
-    if !list {
-        return Read::No(Fault::Last, 0);
-    }
-    let k = before_data(j);
-    if wire::left(s, t) < k {
-        return Read::No(Fault::Last, 0);
-    }
-    let z = wire::u32_at(s, t + k);
-    let Read::Got(count, _) = z else {
-        return Read::No(Fault::Last, 0);
-    };
-    Read::Got(count, t + k)
+    list_of(s, q, kind)
 }
 
-// The same of the last element of rule i, whose name ends at e.
-fn list_at(s: &[u8], product: Product, i: u64, e: usize) -> Read
-    requires { ⌜ e ≤ length (now s) ⌝ }
-    ensures { λ r. ⌜ ((n : ℕ) → Lists product n i e (now (s .entry)) r) ⌝ }
+// The same of the last element of rule i, which starts at a place.
+fn list_at(s: &[u8], at: usize, product: Product, i: u64) -> Read
+    ensures { λ r. ⌜ Where (rule product i) (now (s .entry)) at (lastList product i at) r ⌝ }
 {
-    let c = wire::u16_at(s, e + 24);
+    let c = walk::elements_of(s, at, i);
     let Read::Got(count, p) = c else {
         return Read::No(Fault::Last, 0);
     };
     if count == 0 {
         return Read::No(Fault::Last, 0);
     }
-    let h = rule::head_at(s, p, i);
-    let Read::Got(_, q) = h else {
-        return Read::No(Fault::Last, 0);
-    };
-    let t = element_from(s, product, count - 1, q);
-    list_in(s, product, count - 1, t)
+    let t = walk::element_start(s, p, product, count - 1);
+    list_in(s, t, product, count - 1)
 }
 
 // To the list of count words, a number that stands at t, in the last rule, whose name ends at e.
@@ -138,7 +108,7 @@ fn word_in(buf: &mut [u8], n: usize, product: Product, word: &[u8], m: u64, a: u
         return Outcome::No(Fault::Last, 0);
     }
     let e = locate::name_end(buf, a);
-    let l = list_at(buf, product, m - 1, e);
+    let l = list_at(buf, a, product, m - 1);
     let Read::Got(count, t) = l else {
         return Outcome::No(Fault::Last, 0);
     };

@@ -1,22 +1,23 @@
-use Rattle.view.specs.Word.{data-list, data-other}
+use Rattle.walk.specs.Elements.{of-kind}
+use Rattle.view.specs.Word.{data-other}
 use borrow.Author.Needs.{needs}
 use Rattle.view.proofs.data_word.Statement.{statement}
 use Rattle.view.proofs.data_word.Tie as tie
 
 returns : tie.Need-returns
-returns c = (search (needs, data-list), c .list-word .ensures .1)
+returns c = (search (needs, of-kind), c .list-word .ensures .1)
 
 returns-2 : tie.Need-returns-2
-returns-2 c = (search (needs, data-other), tt)
+returns-2 c = (search (needs, of-kind, data-other), tt)
 
 returns-3 : tie.Need-returns-3
-returns-3 c = (search (needs, data-other), tt)
+returns-3 c = (search (needs, of-kind, data-other), tt)
 
 returns-4 : tie.Need-returns-4
-returns-4 c = (search (needs, data-other), tt)
+returns-4 c = (search (needs, of-kind, data-other), tt)
 
 returns-5 : tie.Need-returns-5
-returns-5 c = (search (needs, data-other), tt)
+returns-5 c = (search (needs, of-kind, data-other), tt)
 
 pub data-word-spec : {M : Type 1} → statement M
 data-word-spec =

@@ -1,16 +1,16 @@
-use Rattle.view.specs.Word.{element-cut, element-foreign, element-is}
+use Rattle.walk.specs.Elements.{carries-cut, carries-none, carries-is}
 use borrow.Author.Needs.{needs}
 use Rattle.view.proofs.element_word.Statement.{statement}
 use Rattle.view.proofs.element_word.Tie as tie
 
 returns : tie.Need-returns
-returns c = (search (needs, element-cut), tt)
+returns c = (search (needs, carries-cut), tt)
 
 returns-2 : tie.Need-returns-2
-returns-2 c = (search (needs, element-foreign), tt)
+returns-2 c = (search (needs, carries-none), tt)
 
 returns-3 : tie.Need-returns-3
-returns-3 c = (search (needs, element-is), c .data-word .ensures .1)
+returns-3 c = (search (needs, carries-is), c .data-word .ensures .1)
 
 pub element-word-spec : {M : Type 1} → statement M
 element-word-spec =

@@ -1,26 +1,22 @@
 use native.Mathlib.Omega.{arith}
-use Rattle.view.specs.View.{nameView}
-use Rattle.view.specs.Asked.{asked-none, asked-refused, asked-absent, asked-is}
 use Rattle.format.specs.Format.{bytes-all}
+use Rattle.view.specs.View.{nameView}
+use Rattle.view.specs.Asked.{asked-refused, asked-absent, asked-is}
 use borrow.Author.Needs.{needs}
 use Rattle.view.proofs.find_name.Statement.{statement}
 use Rattle.view.proofs.find_name.Tie as tie
 
 returns : tie.Need-returns
 unfolding nameView
-returns c = (search (needs, asked-none), tt)
+returns c = (asked-absent _ _ _ _ _ (bytes-all (c .before .before .before .before .before .before .args .s .now) (c .before .before .before .before .before .shared-slice-known .given)) (c .before .before .before .before .pass .ensures) (c .before .before .c2 .given .1) (omega arith), tt)
 
 returns-2 : tie.Need-returns-2
 unfolding nameView
-returns-2 c = (asked-absent _ _ _ _ _ (bytes-all (c .before .before .before .before .before .before .before .before .before .before .args .s .now) (c .before .before .before .before .before .before .before .before .before .shared-slice-known .given)) (c .before .before .before .before .before .before .before .before .edition-of .ensures) (c .before .before .before .before .before .before .e .given .1) (c .before .before .before .before .pass .ensures) (c .before .before .c2 .given .1) (omega arith), tt)
+returns-2 c = (search (needs, asked-refused), tt)
 
 returns-3 : tie.Need-returns-3
 unfolding nameView
-returns-3 c = (search (needs, asked-refused), tt)
-
-returns-4 : tie.Need-returns-4
-unfolding nameView
-returns-4 c = (asked-is _ _ _ _ _ (bytes-all (c .before .before .before .before .before .before .before .before .before .before .before .args .s .now) (c .before .before .before .before .before .before .before .before .before .before .shared-slice-known .given)) (c .before .before .before .before .before .before .before .before .before .edition-of .ensures) (c .before .before .before .before .before .before .before .e .given .1) (c .before .before .before .before .before .pass .ensures) (c .before .before .before .c2 .given .1) (omega arith) (c .name-at .ensures .0), c .name-at .ensures .1)
+returns-3 c = (asked-is _ _ _ _ _ (bytes-all (c .before .before .before .before .before .before .before .args .s .now) (c .before .before .before .before .before .before .shared-slice-known .given)) (c .before .before .before .before .before .pass .ensures) (c .before .before .before .c2 .given .1) (omega arith) (λ p h. c .name-at .ensures .0 p), c .name-at .ensures .1)
 
 pub find-name-spec : {M : Type 1} → statement M
 find-name-spec =
@@ -31,9 +27,5 @@ find-name-spec =
     (λ c. search needs)
     returns
     (λ c κs. search needs)
-    (λ c. search needs)
-    (λ c. search needs)
     returns-2
-    (λ c κs. search needs)
-    returns-3
-    returns-4)
+    returns-3)

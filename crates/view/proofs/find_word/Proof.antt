@@ -1,6 +1,6 @@
 use native.Mathlib.Omega.{arith}
 use Rattle.view.specs.Word.{wordView}
-use Rattle.view.specs.Asked.{asked-none, asked-refused, asked-absent, asked-is}
+use Rattle.view.specs.Asked.{by-product, asked-none, asked-refused, asked-absent, asked-is}
 use Rattle.format.specs.Format.{bytes-all}
 use borrow.Author.Needs.{needs}
 use Rattle.view.proofs.find_word.Statement.{statement}
@@ -12,7 +12,7 @@ returns c = (search (needs, asked-none), tt)
 
 returns-2 : tie.Need-returns-2
 unfolding wordView
-returns-2 c = (asked-absent _ _ _ _ _ (bytes-all (c .before .before .before .before .before .before .before .before .before .before .args .s .now) (c .before .before .before .before .before .before .before .before .before .shared-slice-known .given)) (c .before .before .before .before .before .before .before .before .edition-of .ensures) (c .before .before .before .before .before .before .d .given .1) (c .before .before .before .before .pass .ensures) (c .before .before .c2 .given .1) (omega arith), tt)
+returns-2 c = (asked-absent _ _ _ _ _ (bytes-all (c .before .before .before .before .before .before .before .before .before .before .args .s .now) (c .before .before .before .before .before .before .before .before .before .shared-slice-known .given)) (c .before .before .before .before .pass .ensures) (c .before .before .c2 .given .1) (omega arith), tt)
 
 returns-3 : tie.Need-returns-3
 unfolding wordView
@@ -20,7 +20,7 @@ returns-3 c = (search (needs, asked-refused), tt)
 
 returns-4 : tie.Need-returns-4
 unfolding wordView
-returns-4 c = (asked-is _ _ _ _ _ (bytes-all (c .before .before .before .before .before .before .before .before .before .before .before .args .s .now) (c .before .before .before .before .before .before .before .before .before .before .shared-slice-known .given)) (c .before .before .before .before .before .before .before .before .before .edition-of .ensures) (c .before .before .before .before .before .before .before .d .given .1) (c .before .before .before .before .before .pass .ensures) (c .before .before .before .c2 .given .1) (omega arith) (c .word-of .ensures .0), c .word-of .ensures .1)
+returns-4 c = (asked-is _ _ _ _ _ (bytes-all (c .before .before .before .before .before .before .before .before .before .before .before .args .s .now) (c .before .before .before .before .before .before .before .before .before .before .shared-slice-known .given)) (c .before .before .before .before .before .pass .ensures) (c .before .before .before .c2 .given .1) (omega arith) (by-product _ _ _ _ _ (c .before .before .before .before .before .before .before .before .before .edition-of .ensures) (c .before .before .before .before .before .before .before .d .given .1) (c .word-of .ensures .0)), c .word-of .ensures .1)
 
 pub find-word-spec : {M : Type 1} → statement M
 find-word-spec =

@@ -5,10 +5,10 @@ use Rattle.view.proofs.name_at.Statement.{statement}
 use Rattle.view.proofs.name_at.Tie as tie
 
 returns : tie.Need-returns
-returns c = (name-past _ _ _ _ _ (c .before .before .start-of .ensures) (omega arith), tt)
+returns c = (name-past _ _ _ _ (c .before .before .start-of .ensures) (omega arith), tt)
 
 returns-2 : tie.Need-returns-2
-returns-2 c = (name-is _ _ _ _ _ (c .before .before .before .before .start-of .ensures) (c .before .string-at .ensures) (c .units-of .ensures .0), c .units-of .ensures .1)
+returns-2 c = (name-is _ _ _ _ (c .before .before .before .before .start-of .ensures) (c .before .string-at .ensures) (c .units-of .ensures .0), c .units-of .ensures .1)
 
 pub name-at-spec : {M : Type 1} → statement M
 name-at-spec =

@@ -11,23 +11,20 @@ use Rattle.word.proofs.word_in.Tie as tie
 returns : tie.Need-returns
 returns c = word-none _ _ _ _ _ _ (c .if1 .taken)
 
-list-at-requires : tie.Need-list-at-requires
-list-at-requires c κs = let o = c .before .before .before .before .before .before in let w = name-within (o .args .buf .now) (o .args .a) (o .pre .0) in omega (arith, w, c .before .name-end .ensures)
-
 returns-2 : tie.Need-returns-2
-returns-2 c = word-no-list _ _ _ _ _ _ (c .before .before .before .before .before .before .if1 .left) (c .before .before .before .before .name-end .ensures) (c .before .before .list-at .ensures _) (c .enum-told .given .1)
+returns-2 c = word-no-list _ _ _ _ _ _ (c .before .before .before .before .before .before .if1 .left) (c .before .before .before .before .name-end .ensures) (c .before .before .list-at .ensures) (c .enum-told .given .1)
 
 returns-3 : tie.Need-returns-3
-returns-3 c = word-full _ _ _ _ _ _ (c .before .before .before .before .before .before .before .before .if1 .left) (c .before .before .before .before .before .before .name-end .ensures) (c .before .before .before .before .list-at .ensures _) (c .before .before .l .given .1) (c .if2 .taken)
+returns-3 c = word-full _ _ _ _ _ _ (c .before .before .before .before .before .before .before .before .if1 .left) (c .before .before .before .before .before .before .name-end .ensures) (c .before .before .before .before .list-at .ensures) (c .before .before .l .given .1) (c .if2 .taken)
 
 returns-4 : tie.Need-returns-4
-returns-4 c = word-text _ _ _ _ _ _ (c .before .before .before .before .before .before .before .before .before .before .if1 .left) (c .before .before .before .before .before .before .before .before .name-end .ensures) (c .before .before .before .before .before .before .list-at .ensures _) (c .before .before .before .before .l .given .1) (omega arith) (sym (c .before .is-text .ensures) ∙ not-true _ (c .if3 .taken))
+returns-4 c = word-text _ _ _ _ _ _ (c .before .before .before .before .before .before .before .before .before .before .if1 .left) (c .before .before .before .before .before .before .before .before .name-end .ensures) (c .before .before .before .before .before .before .list-at .ensures) (c .before .before .before .before .l .given .1) (omega arith) (sym (c .before .is-text .ensures) ∙ not-true _ (c .if3 .taken))
 
 lengthen-requires : tie.Need-lengthen-requires
 lengthen-requires c κs = let o = c .before .before .before .before .before .before .before .before .before .before .before .before .before .before in let w = name-within (o .args .buf .now) (o .args .a) (o .pre .0) in (omega (arith, w, c .before .before .before .before .before .before .before .before .before .name-end .ensures), search needs, search needs, sym (c .before .before .is-text .ensures) ∙ not-false _ (c .before .if3 .left))
 
 returns-5 : tie.Need-returns-5
-returns-5 c = word-done _ _ _ _ _ _ _ _ (c .before .before .before .before .before .before .before .before .before .before .before .before .before .before .if1 .left) (c .before .before .before .before .before .before .before .before .before .before .before .before .name-end .ensures) (c .before .before .before .before .before .before .before .before .before .before .list-at .ensures _) (c .before .before .before .before .before .before .before .before .l .given .1) (omega arith) (bytes-all (c .before .before .before .before .before .before .before .before .before .before .before .before .before .before .before .before .before .args .word .now) (c .before .before .before .before .before .before .before .before .before .before .before .before .before .before .before .shared-slice-known .given)) (sym (c .before .before .before .before .before .is-text .ensures) ∙ not-false _ (c .before .before .before .before .if3 .left)) (c .before .before .lengthen .ensures)
+returns-5 c = word-done _ _ _ _ _ _ (c .before .before .before .before .before .before .before .before .before .before .before .before .before .before .if1 .left) (c .before .before .before .before .before .before .before .before .before .before .before .before .name-end .ensures) (c .before .before .before .before .before .before .before .before .before .before .list-at .ensures) (c .before .before .before .before .before .before .before .before .l .given .1) _ _ (omega arith) (bytes-all (c .before .before .before .before .before .before .before .before .before .before .before .before .before .before .before .before .before .args .word .now) (c .before .before .before .before .before .before .before .before .before .before .before .before .before .before .before .shared-slice-known .given)) (sym (c .before .before .before .before .before .is-text .ensures) ∙ not-false _ (c .before .before .before .before .if3 .left)) (c .before .before .lengthen .ensures)
 
 pub word-in-spec : {M : Type 1} → statement M
 word-in-spec =
@@ -36,7 +33,7 @@ word-in-spec =
     returns
     (λ c κs. search needs)
     (λ c. search needs)
-    list-at-requires
+    (λ c κs. search needs)
     (λ c. search needs)
     (λ c. search needs)
     (λ c. search needs)

@@ -1,15 +1,15 @@
 use Prim.Native.Nat.{_-_, _≤_}
-use borrow.Author.Needs.{needs}
 use Rattle.format.specs.Skip.{Skipped, skip-start, skip-go, skip-stop, skip-end}
-use Rattle.rule.specs.Rule.{rule}
-use Rattle.view.proofs.start_of.Statement.{statement}
-use Rattle.view.proofs.start_of.Tie as tie
+use Rattle.rule.specs.Rule.{placed}
+use borrow.Author.Needs.{needs}
+use Rattle.walk.proofs.element_start.Statement.{statement}
+use Rattle.walk.proofs.element_start.Tie as tie
 
 abbrev Inv-loop : tie.InvT-loop
-Inv-loop s product k i₀ p₀ i p = Skipped (rule product) s 7 k i p × (i ≤ k)
+Inv-loop s at product e j₀ p₀ j p = Skipped (placed product) s at e j p × (j ≤ e)
 
 abbrev μ-loop : tie.MeasureT-loop
-μ-loop s product k i₀ p₀ i p = k - i
+μ-loop s at product e j₀ p₀ j p = e - j
 
 loop-holds : tie.Need-loop-holds Inv-loop μ-loop
 loop-holds c = (skip-start _ _ _ _, search needs)
@@ -23,8 +23,8 @@ loop-again c = (search (needs, skip-go), search needs)
 returns-2 : tie.Need-returns-2 Inv-loop μ-loop
 returns-2 c = search (needs, skip-end)
 
-pub start-of-spec : {M : Type 1} → statement M
-start-of-spec =
+pub element-start-spec : {M : Type 1} → statement M
+element-start-spec =
     tie.close
     (tie.spec
     Inv-loop

@@ -1,8 +1,8 @@
 use native.Mathlib.Omega.{arith}
-use Rattle.view.specs.Word.{identified-first, identified-later, identified-cut}
+use Rattle.walk.specs.Elements.{identified-first, identified-later, identified-cut}
 use borrow.Author.Needs.{needs}
-use Rattle.view.proofs.identifier_at.Statement.{statement}
-use Rattle.view.proofs.identifier_at.Tie as tie
+use Rattle.walk.proofs.identifier_at.Statement.{statement}
+use Rattle.walk.proofs.identifier_at.Tie as tie
 
 returns : tie.Need-returns
 returns c = search (needs, identified-first)

@@ -1,7 +1,7 @@
-use Rattle.view.specs.Word.{counts-cut, counts-off, counts-is}
+use Rattle.walk.specs.Elements.{counts-cut, counts-off, counts-is}
 use borrow.Author.Needs.{needs}
-use Rattle.view.proofs.counted_at.Statement.{statement}
-use Rattle.view.proofs.counted_at.Tie as tie
+use Rattle.walk.proofs.counted_at.Statement.{statement}
+use Rattle.walk.proofs.counted_at.Tie as tie
 
 returns : tie.Need-returns
 returns c = search (needs, counts-cut)
