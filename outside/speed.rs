@@ -2,16 +2,17 @@
 //!
 //!     speed [ROUNDS]
 //!
-//! `plain` is the check as one would write it in Rust for speed: one pass, no lists made. The two must agree on every deck.
-//! Under an emulator the times say nothing by themselves; their ratio says how much work each does.
+//! Beside two readers: the independent one, and `plain`, the check as one would write it for speed alone, one pass with no list
+//! made. The three must agree on every deck, and the archive must not be slower than the independent reader.
+//! Under an emulator the times say nothing by themselves; their ratios say how much work each does.
 mod baseline;
 mod door;
 #[path = "speed/plain.rs"]
 mod plain;
 
-use baseline::deck::{write, Rule};
+use baseline::deck::{check, write, Rule};
 use baseline::random::{rules, rules_of_size, small_rule, Random};
-use baseline::STUDIO;
+use baseline::{coded, STUDIO};
 use std::time::Instant;
 
 /// Nanoseconds for each byte. The first rule's signature is another in each round, and every answer counts.
@@ -27,22 +28,32 @@ fn time(rounds: usize, deck: &mut [u8], check: impl Fn(&[u8]) -> u64) -> f64 {
     nanos / (rounds * deck.len()) as f64
 }
 
-fn compare(name: &str, rounds: usize, rules: &[Rule]) {
+/// Whether the archive is no slower than the independent reader.
+fn compare(name: &str, rounds: usize, rules: &[Rule]) -> bool {
     let mut deck = write(rules);
-    assert_eq!(door::check(STUDIO, &deck), plain::check(STUDIO, &deck));
     let archive = |d: &[u8]| door::check(STUDIO, d);
+    let independent = |d: &[u8]| coded(check(STUDIO, d));
     let plain = |d: &[u8]| plain::check(STUDIO, d);
+    assert_eq!(archive(&deck), plain(&deck));
+    assert_eq!(archive(&deck), independent(&deck));
     time(rounds / 10 + 1, &mut deck, archive);
     time(rounds / 10 + 1, &mut deck, plain);
     let (a, p) = (time(rounds, &mut deck, archive), time(rounds, &mut deck, plain));
-    println!("speed: {name}, {} bytes: archive {a:.2} ns a byte, plain Rust {p:.2}, ratio {:.2}", deck.len(), a / p);
+    let i = time(rounds / 10 + 1, &mut deck, independent);
+    println!(
+        "speed: {name}, {} bytes: archive {a:.2} ns a byte, independent Rust {i:.2} (ratio {:.2}), for speed alone {p:.2} ({:.2})",
+        deck.len(),
+        a / i,
+        a / p
+    );
+    a <= i
 }
 
 fn main() {
     let rounds = std::env::args().nth(1).and_then(|n| n.parse().ok()).unwrap_or(2000);
-    compare("names of 254 units", rounds, &rules_of_size(60_000));
+    let names = compare("names of 254 units", rounds, &rules_of_size(60_000));
     let small: Vec<Rule> = (0..256).map(|_| small_rule(0x1F5, vec![0x41])).collect();
-    compare("256 small rules", rounds, &small);
+    let small = compare("256 small rules", rounds, &small);
     let mut random = Random::new(1);
     let mut mixed = Vec::new();
     while write(&mixed).len() < 50_000 && mixed.len() < 256 {
@@ -52,5 +63,9 @@ fn main() {
             mixed.pop();
         }
     }
-    compare("rules of every kind", rounds, &mixed);
+    let mixed = compare("rules of every kind", rounds, &mixed);
+    if !(names && small && mixed) {
+        println!("speed: the archive is slower than the independent reader");
+        std::process::exit(1);
+    }
 }

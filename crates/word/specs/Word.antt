@@ -4,8 +4,8 @@ use native.Mathlib.Omega.{arith}
 use mathlib.Core.Path.{_≡_, refl, sym, ap, _∙_}
 use mathlib.Core.Bool.{true, false}
 use mathlib.Core.List.{List, [], _∷_, _++_, append-assoc, append-nil}
-use lib.ListN.{length, take, drop, length-append, length-drop, take-append-drop}
-use lib.Seq.{length-take-le, take-add}
+use lib.ListN.{length, take, drop, length-append, take-append-drop}
+use lib.Seq.{length-take-le}
 use Rattle.format.specs.declared.Fault.{Fault}
 use Rattle.format.specs.declared.Fault.the-variants as Fault
 use Rattle.format.specs.declared.Outcome.{Outcome}
@@ -31,7 +31,7 @@ use Rattle.deck.specs.Written.{written, before, startOf}
 use Rattle.buffer.specs.Laid.{putIn, put-both}
 use Rattle.buffer.specs.Holds.{Holds, holds-put, holds-behind}
 use Rattle.locate.specs.Located.{lastOf}
-use Rattle.locate.specs.Steps.{Here, here, nameEnd, name-end}
+use Rattle.locate.specs.Steps.{Here, nameEnd}
 use Rattle.plan.specs.Given.{isText, units}
 use Rattle.plan.specs.Edit.{Plan, become, addWord, edited, holding, atList, unlessFull, ifText}
 use Rattle.plan.specs.Found.{MakesAs, Does}
