@@ -27,12 +27,16 @@ pub data Data : Type 0 where
   sizes : ℕ → ℕ → Data
   span : Limit → Limit → Data
 
+-- f of the words, where there are words
+abbrev pub ofWords : {W : Type 0} → W → (List (List ℕ) → W) → Data → W
+ofWords absent f plain = absent
+ofWords absent f (words ws) = f ws
+ofWords absent f (sizes a b) = absent
+ofWords absent f (span a b) = absent
+
 -- what a case of Data holds; of the other cases, anything
 abbrev pub wordsOf : Data → List (List ℕ)
-wordsOf plain = []
-wordsOf (words ws) = ws
-wordsOf (sizes a b) = []
-wordsOf (span a b) = []
+wordsOf d = ofWords [] (λ ws. ws) d
 
 abbrev pub sizesOf : Data → ℕ × ℕ
 sizesOf plain = (0, 0)
@@ -91,13 +95,13 @@ Other Kind.WordList = ⊥
 Other (Kind.Size r) = Unit {0}
 Other (Kind.Dates r) = Unit {0}
 
-pub words-none : (k : Kind) (x : Data) → dataOf k .Fit x → Other k → wordsOf x ≡ []
+pub words-none : {W : Type 0} (absent : W) (f : List (List ℕ) → W) (k : Kind) (x : Data) → dataOf k .Fit x → Other k → ofWords absent f x ≡ absent
 unfolding markerData simpleData sizeData dateData via
-words-none Kind.Marker x f o = ap wordsOf (sym (f .1))
-words-none (Kind.Simple r) x f o = ap wordsOf (sym (f .1))
-words-none Kind.WordList x f o = absurd o
-words-none (Kind.Size r) x f o = ap wordsOf (sym (f .1))
-words-none (Kind.Dates r) x f o = ap wordsOf (sym (f .1))
+words-none absent f Kind.Marker x h o = ap (ofWords absent f) (sym (h .1))
+words-none absent f (Kind.Simple r) x h o = ap (ofWords absent f) (sym (h .1))
+words-none absent f Kind.WordList x h o = absurd o
+words-none absent f (Kind.Size r) x h o = ap (ofWords absent f) (sym (h .1))
+words-none absent f (Kind.Dates r) x h o = ap (ofWords absent f) (sym (h .1))
 
 -- a list that stands at a place: the number of its words, and the words
 pub list-parts : (s : List ℕ) (at : ℕ) (x : Data) (u : List ℕ) → Stands wordData s at x u → Held (number 4) s at (length (wordsOf x)) × Row (λ i. word) s 0 (at + 4) (wordsOf x) u

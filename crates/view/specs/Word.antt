@@ -86,7 +86,7 @@ module _ (s : List ℕ) (at w : ℕ) {c : Read} (e : c ≡ seen itself (number 4
 pub data-other : (k : Kind) (s : List ℕ) (at w : ℕ) → Other k → Where (dataOf k) s at (dataWord w at) (No Fault.Absent 2)
 unfolding Where
 data-other k s at w o x b =
-    let n : wordsOf x ≡ [] = words-none k x (b .1 .fit) o in
+    let n : wordsOf x ≡ [] = words-none [] (λ ws. ws) k x (b .1 .fit) o in
     let d : drop w (wordsOf x) ≡ [] = drop-of-length-le (wordsOf x) {i = w} (omega (arith, ap length n)) in
     ap (wordAt (startIn (λ i. word) (at + 4) (wordsOf x) w)) (sym d)
 

@@ -27,7 +27,7 @@ use Rattle.kind.specs.declared.Role.the-variants as Role
 use Rattle.kind.specs.declared.Row.{Row}
 use Rattle.kind.specs.declared.Row.the-variants as Row
 use Rattle.kind.specs.Kinds.{kinds, rowIn}
-use Rattle.element.specs.Data.{Data, plain, words, sizes, span, wordsOf, Other, dataOf, markerData, simpleData, wordData, sizeData, dateData, list-parts}
+use Rattle.element.specs.Data.{Data, plain, words, sizes, span, ofWords, wordsOf, Other, dataOf, wordData, words-none, list-parts}
 use Rattle.element.specs.Element.{Element, element, identifier, dataBy}
 use Rattle.rule.specs.Rule.{Rule, rule, separator, placed, rule-fits}
 use Rattle.rule.specs.Parts.{headBytes, inner, inner-as}
@@ -37,10 +37,7 @@ use Rattle.plan.specs.Edit.{Plan, refuse, atList}
 
 -- the number of words of a list whose data start at a place, and where it stands; other data are no list
 abbrev pub listOf : ℕ → Data → Read
-listOf at plain = No Fault.Last 0
-listOf at (words ws) = Got (length ws) at
-listOf at (sizes a b) = No Fault.Last 0
-listOf at (span a b) = No Fault.Last 0
+listOf at d = ofWords (No Fault.Last 0) (λ ws. Got (length ws) at) d
 
 -- of the last element of rule k, which starts at a place
 abbrev pub lastList : Product → ℕ → ℕ → Rule → Read
@@ -57,17 +54,9 @@ module _ (s : List ℕ) (at : ℕ) {z : Read} (e : z ≡ seen itself (number 4) 
   unfolding Where wordData via
   list-is h x b = ap (λ (m : ℕ). Got m at) (back-got itself (number 4) s at (list-parts s at x (b .0) (b .1) .0 .1) e h .0) ∙ ap (listOf at) (b .1 .fit .1)
 
-other-is : (at : ℕ) (k : Kind) (x : Data) → dataOf k .Fit x → Other k → No Fault.Last 0 ≡ listOf at x
-unfolding markerData simpleData sizeData dateData via
-other-is at Kind.Marker x f o = ap (listOf at) (f .1)
-other-is at (Kind.Simple r) x f o = ap (listOf at) (f .1)
-other-is at Kind.WordList x f o = absurd o
-other-is at (Kind.Size r) x f o = ap (listOf at) (f .1)
-other-is at (Kind.Dates r) x f o = ap (listOf at) (f .1)
-
 pub list-other : (k : Kind) (s : List ℕ) (at : ℕ) → Other k → Where (dataOf k) s at (listOf at) (No Fault.Last 0)
 unfolding Where
-list-other k s at o x b = other-is at k x (b .1 .fit) o
+list-other k s at o x b = sym (words-none (No Fault.Last 0) (λ ws. Got (length ws) at) k x (b .1 .fit) o)
 
 module _ (p : Product) (s : List ℕ) (at k : ℕ) (r : Read) {c : Read} (i : Elements s at k c) where
   pub last-list-cut : {f : Fault} {q : ℕ} → c ≡ No f q → Where (rule p k) s at (lastList p k at) r
@@ -121,12 +110,12 @@ pub record EndsInList (k e : ℕ) (els : List Element) (c t : ℕ) : Type 0 wher
 -- data that tell of words are a list's
 words-are : (at : ℕ) (r : Row) (x : Data) {c t : ℕ} → dataBy r .Fit x → listOf at x ≡ Got c t → (r ≡ Row.Is Kind.WordList) × ((x ≡ words (wordsOf x)) × ((c ≡ length (wordsOf x)) × (t ≡ at)))
 unfolding wordData via
-words-are at (Row.Is Kind.Marker) x f h = unlike h (sym (other-is at Kind.Marker x f tt))
-words-are at (Row.Is (Kind.Simple r)) x f h = unlike h (sym (other-is at (Kind.Simple r) x f tt))
+words-are at (Row.Is Kind.Marker) x f h = unlike h (words-none _ _ Kind.Marker x f tt)
+words-are at (Row.Is (Kind.Simple r)) x f h = unlike h (words-none _ _ (Kind.Simple r) x f tt)
 words-are at (Row.Is Kind.WordList) x {c} {t} f h = let z : Got c t ≡ Got (length (wordsOf x)) at = sym h ∙ sym (ap (listOf at) (f .1)) in (refl, (sym (f .1), ((cc), (cc))))
-words-are at (Row.Is (Kind.Size r)) x f h = unlike h (sym (other-is at (Kind.Size r) x f tt))
-words-are at (Row.Is (Kind.Dates r)) x f h = unlike h (sym (other-is at (Kind.Dates r) x f tt))
-words-are at (Row.No c q) x f h = unlike h (sym (other-is at (Kind.Simple Role.Condition) x f tt))
+words-are at (Row.Is (Kind.Size r)) x f h = unlike h (words-none _ _ (Kind.Size r) x f tt)
+words-are at (Row.Is (Kind.Dates r)) x f h = unlike h (words-none _ _ (Kind.Dates r) x f tt)
+words-are at (Row.No c q) x f h = unlike h (words-none _ _ (Kind.Simple Role.Condition) x f tt)
 
 pub ends-in-list : (p : Product) (s : List ℕ) (at k e : ℕ) (x : Rule) {c t : ℕ} → Held (rule p k) s at x → e ≡ at + 4 + length (string .write (x .name)) → lastList p k at x ≡ Got c t → EndsInList k e (x .elements) c t
 unfolding startIn headBytes
