@@ -18,7 +18,7 @@ ghost use Rattle.rule.specs.Rule.{rule, placed as inRule};
 ghost use Rattle.view.specs.Asked.{Finds};
 ghost use Rattle.view.specs.Fixed.{Number, fixedAt, fixedFields};
 ghost use Rattle.view.specs.Word.{Words, Identifies, WordOf, Counts, Elements, dataWord, ruleWord, wordView};
-ghost use Rattle.view.specs.View.{Units, Inside, nameAt, nameView, shown, placed};
+ghost use Rattle.view.specs.View.{Units, Inside, nameAt, nameView, shown, viewSays};
 
 // Where rule k of a sound deck starts.
 fn start_of(s: &[u8], product: Product, k: u64) -> usize
@@ -106,7 +106,7 @@ fn part(s: &[u8], v: View) -> &[u8]
 
 // The number and place of a view.
 pub fn place_of(v: View) -> Outcome
-    ensures { λ r. ⌜ r ≡ placed v ⌝ }
+    ensures { λ r. ⌜ r ≡ viewSays v ⌝ }
 {
     match v {
         View::At(a, _) => Outcome::Done(a),
@@ -124,7 +124,7 @@ pub fn name(edition: u64, s: &[u8], k: u64) -> &[u8]
 
 // The number and place of that view.
 pub fn name_place(edition: u64, s: &[u8], k: u64) -> Outcome
-    ensures { λ r. ⌜ r ≡ placed (nameView edition k (now (s .entry))) ⌝ }
+    ensures { λ r. ⌜ r ≡ viewSays (nameView edition k (now (s .entry))) ⌝ }
 {
     let v = find_name(edition, s, k);
     place_of(v)
@@ -315,7 +315,7 @@ pub fn word(edition: u64, s: &[u8], k: u64, e: u64, w: u64) -> &[u8]
 
 // The number and place of that view.
 pub fn word_place(edition: u64, s: &[u8], k: u64, e: u64, w: u64) -> Outcome
-    ensures { λ r. ⌜ r ≡ placed (wordView edition k e w (now (s .entry))) ⌝ }
+    ensures { λ r. ⌜ r ≡ viewSays (wordView edition k e w (now (s .entry))) ⌝ }
 {
     let v = find_word(edition, s, k, e, w);
     place_of(v)
