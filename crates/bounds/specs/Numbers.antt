@@ -29,7 +29,7 @@ use Rattle.plan.specs.Given.{given, givenBy, withData}
 use Rattle.plan.specs.Edit.{Edit, switch, rename, remove, insert, addRule, addElement, addWord, Plan, become, refuse, refuseGiven, edited, room, inRoom, plan, planBy, planned, says}
 use Rattle.bounds.specs.Data.{row-zero}
 use Rattle.bounds.specs.Faults.{Gives, for-refused, for-mapped, for-whole, for-deck, gives-data}
-use Rattle.bounds.specs.Refused.{Only, Own, Refuses, OfGiven, only-edited}
+use Rattle.bounds.specs.Refused.{Only, Own, RefusedAs, OfGiven, only-edited}
 
 -- the number of a fault of what is given is one of these
 unfoldable pub In : List ℕ → Fault → Type 0
@@ -40,7 +40,7 @@ unfoldable pub Ranged : Fault → Type 0
 Ranged c = (34 ≤ numberOf c + 32) × (numberOf c + 32 ≤ 45)
 
 -- of a second deck any of them
-pub second-says : (p : Product) (s : List ℕ) → Refuses (λ c q. Ranged c) (readAs p s)
+pub second-says : (p : Product) (s : List ℕ) → RefusedAs (λ c q. Ranged c) (readAs p s)
 unfolding Ranged within
 second-says p s c q e =
     let P : Fault → Type 0 = λ f. within 34 45 (numberOf f + 32) ≡ true in
@@ -60,7 +60,7 @@ row-refuses P u f p id {c} {q} e = let z : q ≡ 0 = rw e at (row-zero p id) in 
     go (Row.Is k) h i = rw (foreign p k i) f
     go (Row.No d o) h i = rw (lacking kinds id (h ∙ i)) u
 
-pub element-says : (p : Product) (id : ℕ) (s : List ℕ) → Refuses (ElementSays (rowOf p id)) (given p id s)
+pub element-says : (p : Product) (id : ℕ) (s : List ℕ) → RefusedAs (ElementSays (rowOf p id)) (given p id s)
 unfolding given In has Gives
 element-says p id s c q e = go (rowOf p id) refl e
   where

@@ -29,10 +29,10 @@ use Rattle.tables.specs.Tables.{ruleWidth, elementWidth, inTables, tabled, read
 use Rattle.view.specs.declared.View.{View}
 use Rattle.view.specs.declared.View.the-variants.{At, No}
 use Rattle.view.specs.Asked.{asked, askedBy, askedOf, askedFirst}
-use Rattle.view.specs.View.{Inside, nameAt, nameView, placed}
+use Rattle.view.specs.View.{Inside, nameAt, nameView, viewSays}
 use Rattle.view.specs.Word.{wordAt, elementWord, ruleWord, wordView}
 use Rattle.bounds.specs.Data.{most, given-end}
-use Rattle.bounds.specs.Refused.{Only, Own, Refuses, OfGiven, only-edited}
+use Rattle.bounds.specs.Refused.{Only, Own, RefusedAs, OfGiven, only-edited}
 
 -- what is lent to an edit beside its buffer, and is read, is bytes
 unfoldable pub Lent : Edit → Type 0
@@ -56,7 +56,7 @@ small-own : Own Small
 small-own = record { absent = omega arith; copied = omega arith; text = omega arith; full = omega arith; last = omega arith }
 
 module _ (edition : ℕ) (p : Product) (ed : editionOf edition ≡ Edition.Of p) where
-  element-small : (id : ℕ) (s : List ℕ) → Bytes s → Refuses Small (given p id s)
+  element-small : (id : ℕ) (s : List ℕ) → Bytes s → RefusedAs Small (given p id s)
   unfolding endOf
   element-small id s b c q e = let w : q ≤ most = rw e at (given-end p id s b) in omega arith
 
@@ -105,31 +105,31 @@ abbrev Few : View → Type 0
 Few (At a n) = Unit {0}
 Few (No c q) = q ≤ 2
 
-view-small : (f : Product → ℕ → Rule → View) (edition k : ℕ) (s : List ℕ) → ((p : Product) (at : ℕ) (r : Rule) → Few (f p at r)) → Bytes s → Inside (asked No f edition k s) (length s) → placeOf (placed (asked No f edition k s)) ≤ 60000
+view-small : (f : Product → ℕ → Rule → View) (edition k : ℕ) (s : List ℕ) → ((p : Product) (at : ℕ) (r : Rule) → Few (f p at r)) → Bytes s → Inside (asked No f edition k s) (length s) → placeOf (viewSays (asked No f edition k s)) ≤ 60000
 unfolding asked
 view-small f edition k s g b = by (editionOf edition) refl
   where
-    at-rule : (v : View) → Few v → length s ≤ 60000 → Inside v (length s) → placeOf (placed v) ≤ 60000
+    at-rule : (v : View) → Few v → length s ≤ 60000 → Inside v (length s) → placeOf (viewSays v) ≤ 60000
     at-rule (At a n) w l i = omega arith
     at-rule (No c q) w l i = omega arith
 
-    first : (p : Product) (at : ℕ) (rs : List Rule) → length s ≤ 60000 → Inside (askedFirst No (f p) at rs) (length s) → placeOf (placed (askedFirst No (f p) at rs)) ≤ 60000
+    first : (p : Product) (at : ℕ) (rs : List Rule) → length s ≤ 60000 → Inside (askedFirst No (f p) at rs) (length s) → placeOf (viewSays (askedFirst No (f p) at rs)) ≤ 60000
     first p at [] l i = omega arith
     first p at (r ∷ rs) l i = at-rule (f p at r) (g p at r) l i
 
-    read : (p : Product) (a : Answer (List Rule)) → editionOf edition ≡ Edition.Of p → readAs p s ≡ a → placeOf (answered a) ≤ 60000 → Inside (askedOf No f k p a) (length s) → placeOf (placed (askedOf No f k p a)) ≤ 60000
+    read : (p : Product) (a : Answer (List Rule)) → editionOf edition ≡ Edition.Of p → readAs p s ≡ a → placeOf (answered a) ≤ 60000 → Inside (askedOf No f k p a) (length s) → placeOf (viewSays (askedOf No f k p a)) ≤ 60000
     read p (got rs m) e h w i = first p _ (drop k rs) (read-writes-back p s rs m b h .short) i
     read p (refused c q) e h w i = w
 
-    by : (o : Edition) → editionOf edition ≡ o → Inside (askedBy No f k o s) (length s) → placeOf (placed (askedBy No f k o s)) ≤ 60000
+    by : (o : Edition) → editionOf edition ≡ o → Inside (askedBy No f k o s) (length s) → placeOf (viewSays (askedBy No f k o s)) ≤ 60000
     by (Edition.Of p) e i = read p (readAs p s) e refl (read-small edition p s e b) i
     by Edition.Unknown e i = omega arith
 
-pub name-small : (edition k : ℕ) (s : List ℕ) → Bytes s → Inside (nameView edition k s) (length s) → placeOf (placed (nameView edition k s)) ≤ 60000
+pub name-small : (edition k : ℕ) (s : List ℕ) → Bytes s → Inside (nameView edition k s) (length s) → placeOf (viewSays (nameView edition k s)) ≤ 60000
 unfolding nameView
 name-small edition k s b i = view-small (λ p. nameAt) edition k s (λ p at r. tt) b i
 
-pub word-small : (edition k e w : ℕ) (s : List ℕ) → Bytes s → Inside (wordView edition k e w s) (length s) → placeOf (placed (wordView edition k e w s)) ≤ 60000
+pub word-small : (edition k e w : ℕ) (s : List ℕ) → Bytes s → Inside (wordView edition k e w s) (length s) → placeOf (viewSays (wordView edition k e w s)) ≤ 60000
 unfolding wordView
 word-small edition k e w s b i = view-small (ruleWord k e w) edition k s (λ p at r. element p (drop e (r .elements)) _) b i
   where

@@ -29,16 +29,16 @@ pub record Own (N : Fault → ℕ → Type 0) : Type 0 where
   pub last : N Fault.Last 0
 
 -- what it is given is refused as G says
-abbrev pub Refuses : {A : Type 0} → (Fault → ℕ → Type 0) → Answer A → Type 0
-Refuses G a = (c : Fault) (q : ℕ) → a ≡ refused c q → G c q
+abbrev pub RefusedAs : {A : Type 0} → (Fault → ℕ → Type 0) → Answer A → Type 0
+RefusedAs G a = (c : Fault) (q : ℕ) → a ≡ refused c q → G c q
 
 abbrev pub OfGiven : (Fault → ℕ → Type 0) → Product → Edit → Type 0
 OfGiven G p (switch k on) = Unit {0}
 OfGiven G p (rename k name) = Unit {0}
 OfGiven G p (remove k) = Unit {0}
-OfGiven G p (insert k second j) = Refuses G (readAs p second)
-OfGiven G p (addRule name f id s) = Refuses G (given p id s)
-OfGiven G p (addElement id s) = Refuses G (given p id s)
+OfGiven G p (insert k second j) = RefusedAs G (readAs p second)
+OfGiven G p (addRule name f id s) = RefusedAs G (given p id s)
+OfGiven G p (addElement id s) = RefusedAs G (given p id s)
 OfGiven G p (addWord word) = Unit {0}
 
 module _ (N G : Fault → ℕ → Type 0) (o : Own N) where
@@ -78,12 +78,12 @@ module _ (N G : Fault → ℕ → Type 0) (o : Own N) where
   only-list ((id, sizes a b) ∷ later) f g = o .last
   only-list ((id, span a b) ∷ later) f g = o .last
 
-  only-given : (a : Answer Element) (f : Element → Plan) → Refuses G a → ((x : Element) → Only N G (f x)) → Only N G (atGiven a f)
+  only-given : (a : Answer Element) (f : Element → Plan) → RefusedAs G a → ((x : Element) → Only N G (f x)) → Only N G (atGiven a f)
   unfolding atGiven
   only-given (got x n) f h g = g x
   only-given (refused c q) f h g = h c q refl
 
-  only-second : (a : Answer (List Rule)) (f : List Rule → Plan) → Refuses G a → ((qs : List Rule) → Only N G (f qs)) → Only N G (atSecond a f)
+  only-second : (a : Answer (List Rule)) (f : List Rule → Plan) → RefusedAs G a → ((qs : List Rule) → Only N G (f qs)) → Only N G (atSecond a f)
   unfolding atSecond
   only-second (got qs n) f h g = g qs
   only-second (refused c q) f h g = h c q refl

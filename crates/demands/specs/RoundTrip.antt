@@ -133,12 +133,12 @@ value-writes-back edition id s v room bs a e h = by (editionOf edition) e
 -- ---- a value to data and back
 
 -- what the code's types hold: numbers of 32 bits, floats of 64
-abbrev pub Held : Value → Type 0
-Held Value.Marker = Unit {0}
-Held (Value.Simple n) = Unit {0}
-Held (Value.Size a b) = (a < 2 ^ 32) × (b < 2 ^ 32)
-Held (Value.Dates v) = (fits binary64 (v .after) ≡ true) × (fits binary64 (v .before) ≡ true)
-Held (Value.Words n) = Unit {0}
+abbrev pub HandedValue : Value → Type 0
+HandedValue Value.Marker = Unit {0}
+HandedValue (Value.Simple n) = Unit {0}
+HandedValue (Value.Size a b) = (a < 2 ^ 32) × (b < 2 ^ 32)
+HandedValue (Value.Dates v) = (fits binary64 (v .after) ≡ true) × (fits binary64 (v .before) ≡ true)
+HandedValue (Value.Words n) = Unit {0}
 
 one-zero-fit : oneZero .Fit tt
 unfolding oneZero fixed _then_ seq pair via judged number
@@ -189,7 +189,7 @@ dated-is v d e = go (accepted (toBits binary64 (v .after))) (accepted (toBits bi
     go true false x y w = not-lacks refl w
     go false b x y w = not-lacks refl w
 
-fit-of : (v : Value) (d : Data) → Held v → fromValue v ≡ holds d → formatBy (shapeOf v) .Fit d
+fit-of : (v : Value) (d : Data) → HandedValue v → fromValue v ≡ holds d → formatBy (shapeOf v) .Fit d
 unfolding formatBy shapeOf pick simpleData sizeData dateData _then_ seq pair via number
 fit-of Value.Marker d h e = let y : d ≡ plain = cc in rw y marker-fit
 fit-of (Value.Simple n) d h e = let y : d ≡ plain = cc in rw y (one-zero-fit, refl)
@@ -203,7 +203,7 @@ and-right : (a b : Bool) → (a && b) ≡ true → b ≡ true
 and-right true b h = h
 and-right false b h = absurd (let z : _≡_ {A = ℕ} 0 1 = cc in omega arith)
 
-value-of-data : (k : Kind) (id : ℕ) (v : Value) (d : Data) → Held v → isOf k id v ≡ true → fromValue v ≡ holds d → valueBy (shapeOf v) id d ≡ v
+value-of-data : (k : Kind) (id : ℕ) (v : Value) (d : Data) → HandedValue v → isOf k id v ≡ true → fromValue v ≡ holds d → valueBy (shapeOf v) id d ≡ v
 unfolding valueBy shapeOf isOf pick
 value-of-data k id Value.Marker d h i e = refl
 value-of-data k id (Value.Simple n) d h i e = ap Value.Simple (sym (eqb-true n id (and-right (eqb (shape k) 2) (eqb n id) i)))
@@ -219,7 +219,7 @@ whole-back k id d f =
     let b : dataOf k .read (dataOf k .write d) ≡ got d (length (dataOf k .write d)) = rw append-nil at (dataOf k .back d [] f) in
     rw (b, eq-eqb (length (dataOf k .write d)) (length (dataOf k .write d)) refl)
 
-kind-forth : (k : Kind) (id : ℕ) (v : Value) (room : ℕ) (bs : List ℕ) → Held v → planKind k id v room ≡ write bs → fromKind k id bs ≡ Valued.Is v
+kind-forth : (k : Kind) (id : ℕ) (v : Value) (room : ℕ) (bs : List ℕ) → HandedValue v → planKind k id v room ≡ write bs → fromKind k id bs ≡ Valued.Is v
 unfolding planKind ifRoom pick
 kind-forth k id v room bs h e = is (isOf k id v) refl e
   where
@@ -241,7 +241,7 @@ kind-forth k id v room bs h e = is (isOf k id v) refl e
     is false i x = unwritten refl x
 
 -- "a value turned into data" and read: the same value
-pub data-reads-back : (edition id : ℕ) (v : Value) (room : ℕ) (bs : List ℕ) → Held v → putting edition id v room ≡ write bs → valueOf edition id bs ≡ Valued.Is v
+pub data-reads-back : (edition id : ℕ) (v : Value) (room : ℕ) (bs : List ℕ) → HandedValue v → putting edition id v room ≡ write bs → valueOf edition id bs ≡ Valued.Is v
 unfolding valueOf putting
 data-reads-back edition id v room bs h e = by (editionOf edition) e
   where

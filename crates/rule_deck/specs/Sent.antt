@@ -15,7 +15,7 @@ use Rattle.plan.specs.Edit.{Edit, planned, says, leaves}
 use Rattle.plan.specs.Found.{Edits}
 use Rattle.start.specs.Start.{startSays}
 use Rattle.view.specs.declared.View.{View}
-use Rattle.view.specs.View.{Inside, placed}
+use Rattle.view.specs.View.{Inside, viewSays}
 use Rattle.bounds.specs.Places.{Lent, plan-small}
 
 -- a rule's fixed fields, one after the other
@@ -47,8 +47,8 @@ pub inside-as : {v w : View} (n : ℕ) → v ≡ w → Inside v n → Inside w n
 inside-as n e i = rw e at i
 
 module _ {v w : View} {o : Outcome} where
-  pub view-fits : v ≡ w → o ≡ placed v → placeOf (placed w) ≤ 60000 → placeOf o < 2 ^ 48
-  view-fits e h l = omega (arith, ap placeOf (h ∙ ap placed e), l)
+  pub view-fits : v ≡ w → o ≡ viewSays v → placeOf (viewSays w) ≤ 60000 → placeOf o < 2 ^ 48
+  view-fits e h l = omega (arith, ap placeOf (h ∙ ap viewSays e), l)
 
-  pub view-sent : {r : ℕ} → v ≡ w → o ≡ placed v → r ≡ packed o → r ≡ packed (placed w)
-  view-sent e h g = g ∙ ap packed (h ∙ ap placed e)
+  pub view-sent : {r : ℕ} → v ≡ w → o ≡ viewSays v → r ≡ packed o → r ≡ packed (viewSays w)
+  view-sent e h g = g ∙ ap packed (h ∙ ap viewSays e)

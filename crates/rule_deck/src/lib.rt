@@ -8,7 +8,7 @@ ghost use Rattle.format.specs.Fault.{placeOf, packed};
 ghost use Rattle.kind.specs.Kinds.{editionOf};
 ghost use Rattle.deck.specs.Deck.{answered, readDeck};
 ghost use Rattle.tables.specs.Tables.{readSays, rulesAfter, elementsAfter};
-ghost use Rattle.view.specs.View.{placed, nameView};
+ghost use Rattle.view.specs.View.{viewSays, nameView};
 ghost use Rattle.view.specs.Word.{wordView};
 ghost use Rattle.plan.specs.Edit.{switch, rename, remove, insert, addRule, addElement, addWord};
 ghost use Rattle.start.specs.Start.{startSays, startLeaves};
@@ -49,7 +49,7 @@ pub extern "C" fn rule_deck_read(
 // Where the units of the name of rule k start.
 #[no_mangle]
 pub extern "C" fn rule_deck_name(edition: u64, deck: &[u8], k: u64) -> u64
-    ensures { λ r. ⌜ r ≡ packed (placed (nameView edition k (now (deck .entry)))) ⌝ }
+    ensures { λ r. ⌜ r ≡ packed (viewSays (nameView edition k (now (deck .entry)))) ⌝ }
 {
     let v = view::find_name(edition, deck, k);
     pack(view::place_of(v))
@@ -58,7 +58,7 @@ pub extern "C" fn rule_deck_name(edition: u64, deck: &[u8], k: u64) -> u64
 // Where the units of word w of element e of rule k start.
 #[no_mangle]
 pub extern "C" fn rule_deck_word(edition: u64, deck: &[u8], k: u64, e: u64, w: u64) -> u64
-    ensures { λ r. ⌜ r ≡ packed (placed (wordView edition k e w (now (deck .entry)))) ⌝ }
+    ensures { λ r. ⌜ r ≡ packed (viewSays (wordView edition k e w (now (deck .entry)))) ⌝ }
 {
     let v = view::find_word(edition, deck, k, e, w);
     pack(view::place_of(v))

@@ -34,9 +34,9 @@ pub empty-long : length (written []) ≡ 7
 empty-long = sym (ap length empty-is) ∙ length-spelt 7 0x014B4452
 
 module _ (d : List ℕ) where
-  pub start-no : length d < 7 → (Outcome.No Fault.Room 0 ≡ startSays (length d)) × (d ≡ startLeaves d)
+  pub start-none : length d < 7 → (Outcome.No Fault.Room 0 ≡ startSays (length d)) × (d ≡ startLeaves d)
   unfolding startLeaves pick
-  start-no h = (rw (lt-leb 7 (length d) h), put-out d 0 (written []) (λ w. omega (arith, w, empty-long)))
+  start-none h = (rw (lt-leb 7 (length d) h), put-out d 0 (written []) (λ w. omega (arith, w, empty-long)))
 
   pub start-is : {y : List ℕ} → 7 ≤ length d → y ≡ putIn d 0 (spelt 7 0x014B4452) → (Outcome.Done 7 ≡ startSays (length d)) × (y ≡ startLeaves d)
   unfolding startLeaves pick

@@ -118,9 +118,9 @@ module _ (p : Product) (s : List ℕ) (at i n k : ℕ) (t : List ℕ) where
       pub elements-stop : {c : Fault} {o : ℕ} → r ≡ No c o → ElementsFill p s at i n k t t₁ r
       elements-stop f u stop a h = back-no named (placed p j) s q (next (e u stop a h .0) l .stands) g f
 
-      pub elements-go : {v o d : ℕ} {t₂ : List ℕ} → r ≡ Got v o → d ≡ dataAt j q → (k + elementWidth * j + 4 ≤ length t₁ → t₂ ≡ put t₁ (k + elementWidth * j) (v ∷ i ∷ d ∷ o ∷ []))
+      pub elements-fill : {v o d : ℕ} {t₂ : List ℕ} → r ≡ Got v o → d ≡ dataAt j q → (k + elementWidth * j + 4 ≤ length t₁ → t₂ ≡ put t₁ (k + elementWidth * j) (v ∷ i ∷ d ∷ o ∷ []))
           → ElementsTurn p s at i n k t (j + 1) o t₂
-      elements-go {v} {o} {d} {t₂} f w z u stop a h =
+      elements-fill {v} {o} {d} {t₂} f w z u stop a h =
           let b = e u stop a h in
           let x = next (b .0) l in
           let m = back-got named (placed p j) s q (x .stands) g f in
@@ -130,21 +130,21 @@ module _ (p : Product) (s : List ℕ) (at i n k : ℕ) (t : List ℕ) where
           rw (m .1) (x .rest, filling-go (elementRow p i j q (x .x)) _ (b .1) y st (omega arith))
 
 -- a number of elements below 2 ^ 16 and a place, or a refusal
-unfoldable pub Below : ℕ → Read → Type 0
-Below b (Got n m) = (n < 2 ^ 16) × (m ≤ b)
-Below b (No c q) = Unit {0}
+unfoldable pub Under : ℕ → Read → Type 0
+Under b (Got n m) = (n < 2 ^ 16) × (m ≤ b)
+Under b (No c q) = Unit {0}
 
-pub below-is : {b n m : ℕ} → n < 2 ^ 16 → m ≤ b → Below b (Got n m)
-unfolding Below
-below-is h k = (h, k)
+pub under-is : {b n m : ℕ} → n < 2 ^ 16 → m ≤ b → Under b (Got n m)
+unfolding Under
+under-is h k = (h, k)
 
-pub below-got : {b n m : ℕ} {r : Read} → Below b r → r ≡ Got n m → (n < 2 ^ 16) × (m ≤ b)
-unfolding Below
-below-got h e = rw e at h
+pub under-got : {b n m : ℕ} {r : Read} → Under b r → r ≡ Got n m → (n < 2 ^ 16) × (m ≤ b)
+unfolding Under
+under-got h e = rw e at h
 
-pub below-no : (b : ℕ) {q : ℕ} {c : Fault} {r : Read} → r ≡ No c q → Below b r
-unfolding Below
-below-no b e = rw e tt
+pub under-no : (b : ℕ) {q : ℕ} {c : Fault} {r : Read} → r ≡ No c q → Under b r
+unfolding Under
+under-no b e = rw e tt
 
 -- an identifier has 32 bits
 pub identifier-small : (p : Product) (j : ℕ) (s : List ℕ) (at : ℕ) {r : Read} {v m : ℕ} → Bytes s → r ≡ seen named (placed p j) s at → r ≡ Got v m → v < 2 ^ 32
@@ -159,7 +159,7 @@ pub two-small : (s : List ℕ) (at : ℕ) {r : Read} {v m : ℕ} → Bytes s →
 unfolding number
 two-small s at bs e h = let o = seen-fits itself (number 2) s at bs e h in rw (o .1 .1) (o .1 .0)
 
-pub below-up : {a b : ℕ} (r : Read) → Below a r → a ≤ b → Below b r
-unfolding Below
-below-up (Got n m) h l = (h .0, omega (arith, h .1))
-below-up (No c q) h l = tt
+pub under-up : {a b : ℕ} (r : Read) → Under a r → a ≤ b → Under b r
+unfolding Under
+under-up (Got n m) h l = (h .0, omega (arith, h .1))
+under-up (No c q) h l = tt

@@ -57,8 +57,8 @@ RuleFill p s at i k t t₁ e e₁ r =
     → (r ≡ Got (elementsIn x) (at + ruleBytes p i x)) × ((t₁ ≡ put t (ruleWidth * i) (ruleRow p i at x)) × (e₁ ≡ put e k (ruleElementRows p i at x)))
 
 module _ (p : Product) (s : List ℕ) (at i k : ℕ) (t t₁ e e₁ : List ℕ) where
-  pub rule-cut : {r : Read} {f : Fault} {o : ℕ} → r ≡ seen itself stringLength s (at + 4) → r ≡ No f o → RuleFill p s at i k t t₁ e e₁ r
-  rule-cut g h x u b lt le = back-no itself stringLength s (at + 4) (rule-parts p i s at x u b .lengthed .1) g h
+  pub rule-lengthless : {r : Read} {f : Fault} {o : ℕ} → r ≡ seen itself stringLength s (at + 4) → r ≡ No f o → RuleFill p s at i k t t₁ e e₁ r
+  rule-lengthless g h x u b lt le = back-no itself stringLength s (at + 4) (rule-parts p i s at x u b .lengthed .1) g h
 
   module _ {c : Read} (g : c ≡ seen length string s (at + 4)) where
     pub rule-nameless : {f : Fault} {o : ℕ} → c ≡ No f o → RuleFill p s at i k t t₁ e e₁ c

@@ -13,7 +13,7 @@ ghost use Rattle.kind.specs.Kinds.{editionOf};
 ghost use Rattle.rule.specs.Places.{dataAt};
 ghost use Rattle.tables.specs.Tables.{inTables, readSays, rulesAfter, elementsAfter};
 ghost use Rattle.buffer.specs.Laid.{put};
-ghost use Rattle.tables.specs.Fill.{Below, ElementsFill};
+ghost use Rattle.tables.specs.Fill.{Under, ElementsFill};
 ghost use Rattle.tables.specs.Parts.{BodyFill, RuleFill, RulesFill, Fills};
 
 // The numbers of a row.
@@ -66,7 +66,7 @@ fn fill_elements(
     requires { ⌜ i ≤ 256 ⌝ }
     requires { ⌜ n < 2 ^ 16 ⌝ }
     requires { ⌜ k < 2 ^ 30 ⌝ }
-    ensures { λ r. ⌜ ElementsFill product (now (s .entry)) at i n k (now (t .entry)) (now (t .exit)) r × Below (at + 60000) r ⌝ }
+    ensures { λ r. ⌜ ElementsFill product (now (s .entry)) at i n k (now (t .entry)) (now (t .exit)) r × Under (at + 60000) r ⌝ }
 {
     let mut j = 0;
     let mut p = at;
@@ -96,7 +96,7 @@ fn fill_body(s: &[u8], at: usize, product: Product, i: u64, t: &mut [u32], k: us
     requires { ⌜ at < 2 ^ 29 ⌝ }
     requires { ⌜ i ≤ 256 ⌝ }
     requires { ⌜ k < 2 ^ 30 ⌝ }
-    ensures { λ r. ⌜ BodyFill product (now (s .entry)) at i k (now (t .entry)) (now (t .exit)) r × Below (at + 120000) r ⌝ }
+    ensures { λ r. ⌜ BodyFill product (now (s .entry)) at i k (now (t .entry)) (now (t .exit)) r × Under (at + 120000) r ⌝ }
 {
     let c = wire::u16_at(s, at);
     let Read::Got(n, p) = c else {
@@ -123,7 +123,7 @@ fn fill_rule(
     requires { ⌜ at < 2 ^ 28 ⌝ }
     requires { ⌜ i ≤ 256 ⌝ }
     requires { ⌜ k < 2 ^ 30 ⌝ }
-    ensures { λ r. ⌜ RuleFill product (now (s .entry)) at i k (now (rules .entry)) (now (rules .exit)) (now (elements .entry)) (now (elements .exit)) r × Below (at + 200000) r ⌝ }
+    ensures { λ r. ⌜ RuleFill product (now (s .entry)) at i k (now (rules .entry)) (now (rules .exit)) (now (elements .entry)) (now (elements .exit)) r × Under (at + 200000) r ⌝ }
 {
     let l = text::length_at(s, at + 4);
     let Read::Got(_, units) = l else {

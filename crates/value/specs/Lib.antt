@@ -1,3 +1,3 @@
 pub mod Value
-pub mod Holds
+pub mod Held
 pub mod Places

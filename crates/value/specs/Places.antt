@@ -25,7 +25,8 @@ use Rattle.element.specs.Data.{Data, Limit, oneZero, limit, wordData, sizeData,
 use Rattle.value.specs.declared.Valued.{Valued}
 use Rattle.value.specs.declared.Valued.the-variants as Valued
 use Rattle.value.specs.Value.{floats, valueIn, fromData, fromKind, valueOf}
-use Rattle.value.specs.Holds.{Holds, holds-read, holds-seen, holds-first, holds-second, holds-via, holds-then, holds-judged, seen-fit}
+use Rattle.format.specs.Written.{Held}
+use Rattle.value.specs.Held.{held-read, held-seen, held-first, held-second, held-via, held-then, held-judged, seen-fit}
 use Rattle.date.specs.Date.{date}
 use Rattle.kind.specs.declared.Product.{Product}
 use Rattle.kind.specs.declared.Edition.{Edition}
@@ -100,52 +101,52 @@ limit-long : (at : ℕ) (l : Limit) → at + 16 ≡ at + length (limit .write l)
 unfolding limit flag fixed date _then_ seq pair pairWrite via judged number spelt
 limit-long at l = refl
 
-pub number-stands : (s : List ℕ) (at : ℕ) {x : ℕ} → Holds (number 4) s at x → numberAt s at ≡ x
-number-stands s at h = ap valueOr0 (holds-seen itself (number 4) s at h)
+pub number-stands : (s : List ℕ) (at : ℕ) {x : ℕ} → Held (number 4) s at x → numberAt s at ≡ x
+number-stands s at h = ap valueOr0 (held-seen itself (number 4) s at h)
 
-pub date-stands : (s : List ℕ) (at : ℕ) {x : ℕ} → Holds date s at x → dateAt s at ≡ ofBits binary64 x
-date-stands s at h = ap (λ (r : Read). ofBits binary64 (valueOr0 r)) (holds-seen itself date s at h)
+pub date-stands : (s : List ℕ) (at : ℕ) {x : ℕ} → Held date s at x → dateAt s at ≡ ofBits binary64 x
+date-stands s at h = ap (λ (r : Read). ofBits binary64 (valueOr0 r)) (held-seen itself date s at h)
 
-flag-stands : (s : List ℕ) (at : ℕ) {b : Bool} → Holds flag s at b → eqb (numberAt s at) 1 ≡ b
+flag-stands : (s : List ℕ) (at : ℕ) {b : Bool} → Held flag s at b → eqb (numberAt s at) 1 ≡ b
 unfolding flag bit pick
-flag-stands s at {b} h = ap (λ (n : ℕ). eqb n 1) (number-stands s at (holds-judged _ _ _ s at (holds-via _ _ bit _ s at h))) ∙ go b
+flag-stands s at {b} h = ap (λ (n : ℕ). eqb n 1) (number-stands s at (held-judged _ _ _ s at (held-via _ _ bit _ s at h))) ∙ go b
   where
     go : (b : Bool) → eqb (bit b) 1 ≡ b
     go true = refl
     go false = refl
 
 -- one end of a date span: 16 bytes, the flag and the date
-module _ (s : List ℕ) (at : ℕ) {l : Limit} (h : Holds limit s at l) where
+module _ (s : List ℕ) (at : ℕ) {l : Limit} (h : Held limit s at l) where
   pub limit-set : eqb (numberAt s at) 1 ≡ l .set
   unfolding limit seq
-  limit-set = flag-stands s at (holds-first _ _ s at (holds-via _ _ _ _ s at h))
+  limit-set = flag-stands s at (held-first _ _ s at (held-via _ _ _ _ s at h))
 
   pub limit-at : dateAt s (at + 8) ≡ ofBits binary64 (l .at)
   unfolding limit seq
   limit-at =
-      let z = holds-second flag (λ b. fixed 4 0 Fault.Field then date) s at (at + 4) (holds-via _ _ _ _ s at h) (flag-long at (l .set)) in
-      date-stands s (at + 8) (holds-then _ date s (at + 4) (at + 8) z (omega (arith, zero-long (at + 4))))
+      let z = held-second flag (λ b. fixed 4 0 Fault.Field then date) s at (at + 4) (held-via _ _ _ _ s at h) (flag-long at (l .set)) in
+      date-stands s (at + 8) (held-then _ date s (at + 4) (at + 8) z (omega (arith, zero-long (at + 4))))
 
-words-stand : (s : List ℕ) {d : Data} → Holds wordData s 0 d → numberAt s 0 ≡ length (wordsOf d)
+words-stand : (s : List ℕ) {d : Data} → Held wordData s 0 d → numberAt s 0 ≡ length (wordsOf d)
 unfolding wordData listed counted count
-words-stand s h = number-stands s 0 (holds-judged _ _ _ s 0 (holds-first _ _ s 0 (holds-via _ _ _ _ s 0 (holds-via _ _ _ _ s 0 h))))
+words-stand s h = number-stands s 0 (held-judged _ _ _ s 0 (held-first _ _ s 0 (held-via _ _ _ _ s 0 (held-via _ _ _ _ s 0 h))))
 
-sizes-stand : (s : List ℕ) {d : Data} → Holds sizeData s 0 d → (numberAt s 8 ≡ sizesOf d .0) × (numberAt s 12 ≡ sizesOf d .1)
+sizes-stand : (s : List ℕ) {d : Data} → Held sizeData s 0 d → (numberAt s 8 ≡ sizesOf d .0) × (numberAt s 12 ≡ sizesOf d .1)
 unfolding sizeData seq
 sizes-stand s {d} h =
-    let g = holds-then oneZero _ s 0 8 (holds-via _ _ _ _ s 0 h) one-zero-long in
-    (number-stands s 8 (holds-first _ _ s 8 g), number-stands s 12 (holds-second _ _ s 8 12 g (number-long 8 (sizesOf d .0))))
+    let g = held-then oneZero _ s 0 8 (held-via _ _ _ _ s 0 h) one-zero-long in
+    (number-stands s 8 (held-first _ _ s 8 g), number-stands s 12 (held-second _ _ s 8 12 g (number-long 8 (sizesOf d .0))))
 
-span-stands : (s : List ℕ) {d : Data} → Holds dateData s 0 d → spanAt s ≡ floats (spanOf d)
+span-stands : (s : List ℕ) {d : Data} → Held dateData s 0 d → spanAt s ≡ floats (spanOf d)
 unfolding dateData seq spanAt
 span-stands s {d} h =
-    let g = holds-then oneZero _ s 0 8 (holds-via _ _ _ _ s 0 h) one-zero-long in
-    let a = holds-first _ _ s 8 g in
-    let b = holds-second _ _ s 8 24 g (limit-long 8 (spanOf d .0)) in
+    let g = held-then oneZero _ s 0 8 (held-via _ _ _ _ s 0 h) one-zero-long in
+    let a = held-first _ _ s 8 g in
+    let b = held-second _ _ s 8 24 g (limit-long 8 (spanOf d .0)) in
     rw (limit-set s 8 a, limit-at s 8 a, limit-set s 24 b, limit-at s 24 b)
 
 -- the value in sound data
-pub value-stands : (k : Kind) (id : ℕ) (s : List ℕ) {d : Data} → Holds (dataOf k) s 0 d → valueAt k id s ≡ valueIn k id d
+pub value-stands : (k : Kind) (id : ℕ) (s : List ℕ) {d : Data} → Held (dataOf k) s 0 d → valueAt k id s ≡ valueIn k id d
 unfolding valueAt
 value-stands Kind.Marker id s h = refl
 value-stands (Kind.Simple r) id s h = refl
@@ -168,12 +169,12 @@ module _ (k : Kind) (id : ℕ) (s : List ℕ) where
   unfolding fromKind seen whole told pick finished
   data-is {r} bs e = go (dataOf k .read s) refl ∙ sym (ap finished e)
     where
-      ends : (t : Bool) (d : Data) (m : ℕ) → Holds (dataOf k) s 0 d → fromData k id (pick t (got d m) (refused Fault.Over m)) ≡ pick t (Valued.Is (valueAt k id s)) (Valued.Given Fault.Over m)
+      ends : (t : Bool) (d : Data) (m : ℕ) → Held (dataOf k) s 0 d → fromData k id (pick t (got d m) (refused Fault.Over m)) ≡ pick t (Valued.Is (valueAt k id s)) (Valued.Given Fault.Over m)
       ends true d m h = ap Valued.Is (sym (value-stands k id s h))
       ends false d m h = refl
 
       go : (a : Answer Data) → dataOf k .read s ≡ a → fromData k id (whole (length s) a) ≡ finished (told 0 none a)
-      go (got d m) h = rw zero-add (ends (eqb m (length s)) d m (holds-read (dataOf k) s 0 bs h))
+      go (got d m) h = rw zero-add (ends (eqb m (length s)) d m (held-read (dataOf k) s 0 bs h))
       go (refused c q) h = rw zero-add
 
   module _ {r : Read} {q : ℕ} (bs : (i : ℕ) → Fits w8 (getD s i 0)) (e : r ≡ seen none (dataOf k) s 0) where

@@ -32,9 +32,9 @@ shown (At a n) s = take n (drop a s)
 shown (No c q) s = []
 
 -- "for a view its first byte"
-abbrev pub placed : View → Outcome
-placed (At a n) = Outcome.Done a
-placed (No c q) = Outcome.No c q
+abbrev pub viewSays : View → Outcome
+viewSays (At a n) = Outcome.Done a
+viewSays (No c q) = Outcome.No c q
 
 -- ---- as the code finds it
 
@@ -98,11 +98,11 @@ shown-no s h = ap (λ (x : View). shown x s) (sym h)
 pub shown-as : {v w : View} {xs : List ℕ} (s : List ℕ) → xs ≡ shown v s → v ≡ w → xs ≡ shown w s
 shown-as s h e = h ∙ ap (λ (x : View). shown x s) e
 
-pub placed-at : {v : View} {a n : ℕ} → v ≡ At a n → Outcome.Done a ≡ placed v
-placed-at h = ap placed (sym h)
+pub placed-at : {v : View} {a n : ℕ} → v ≡ At a n → Outcome.Done a ≡ viewSays v
+placed-at h = ap viewSays (sym h)
 
-pub placed-no : {v : View} {c : Fault} {q : ℕ} → v ≡ No c q → Outcome.No c q ≡ placed v
-placed-no h = ap placed (sym h)
+pub placed-no : {v : View} {c : Fault} {q : ℕ} → v ≡ No c q → Outcome.No c q ≡ viewSays v
+placed-no h = ap viewSays (sym h)
 
-pub placed-as : {v w : View} {r : Outcome} → r ≡ placed v → v ≡ w → r ≡ placed w
-placed-as h e = h ∙ ap placed e
+pub placed-as : {v w : View} {r : Outcome} → r ≡ viewSays v → v ≡ w → r ≡ viewSays w
+placed-as h e = h ∙ ap viewSays e

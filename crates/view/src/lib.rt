@@ -19,7 +19,7 @@ ghost use Rattle.walk.specs.Elements.{Carries};
 ghost use Rattle.view.specs.Asked.{Finds, Tells};
 ghost use Rattle.view.specs.Fixed.{Number, fixedAt, fixedFields};
 ghost use Rattle.view.specs.Word.{Words, dataWord, ruleWord, wordView};
-ghost use Rattle.view.specs.View.{Units, Inside, nameAt, nameView, shown, placed};
+ghost use Rattle.view.specs.View.{Units, Inside, nameAt, nameView, shown, viewSays};
 
 // What a view answers: its first byte and how many bytes it is; or a fault with its place.
 pub enum View {
@@ -86,7 +86,7 @@ fn part(s: &[u8], v: View) -> &[u8]
 
 // The number and place of a view.
 pub fn place_of(v: View) -> Outcome
-    ensures { λ r. ⌜ r ≡ placed v ⌝ }
+    ensures { λ r. ⌜ r ≡ viewSays v ⌝ }
 {
     match v {
         View::At(a, _) => Outcome::Done(a),
@@ -104,7 +104,7 @@ pub fn name(edition: u64, s: &[u8], k: u64) -> &[u8]
 
 // The number and place of that view.
 pub fn name_place(edition: u64, s: &[u8], k: u64) -> Outcome
-    ensures { λ r. ⌜ r ≡ placed (nameView edition k (now (s .entry))) ⌝ }
+    ensures { λ r. ⌜ r ≡ viewSays (nameView edition k (now (s .entry))) ⌝ }
 {
     let v = find_name(edition, s, k);
     place_of(v)
@@ -233,7 +233,7 @@ pub fn word(edition: u64, s: &[u8], k: u64, e: u64, w: u64) -> &[u8]
 
 // The number and place of that view.
 pub fn word_place(edition: u64, s: &[u8], k: u64, e: u64, w: u64) -> Outcome
-    ensures { λ r. ⌜ r ≡ placed (wordView edition k e w (now (s .entry))) ⌝ }
+    ensures { λ r. ⌜ r ≡ viewSays (wordView edition k e w (now (s .entry))) ⌝ }
 {
     let v = find_word(edition, s, k, e, w);
     place_of(v)

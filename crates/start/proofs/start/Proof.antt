@@ -1,11 +1,11 @@
 use native.Mathlib.Omega.{arith}
-use Rattle.start.specs.Start.{start-no, start-is}
+use Rattle.start.specs.Start.{start-none, start-is}
 use borrow.Author.Needs.{needs}
 use Rattle.start.proofs.start.Statement.{statement}
 use Rattle.start.proofs.start.Tie as tie
 
 returns : tie.Need-returns
-returns c = start-no _ (omega arith)
+returns c = start-none _ (omega arith)
 
 returns-2 : tie.Need-returns-2
 returns-2 c = start-is _ (omega arith) (c .before .before .put-number .ensures)

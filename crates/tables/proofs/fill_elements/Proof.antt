@@ -5,7 +5,7 @@ use lib.ListN.{length}
 use Rattle.format.specs.Format.{bytes-all}
 use Rattle.format.specs.Back.{seen-ends}
 use Rattle.element.specs.Element.{named}
-use Rattle.tables.specs.Fill.{ElementsTurn, elements-start, elements-done, elements-stop, elements-go, below-no, below-is, identifier-small}
+use Rattle.tables.specs.Fill.{ElementsTurn, elements-start, elements-done, elements-stop, elements-fill, under-no, under-is, identifier-small}
 use borrow.Author.Needs.{needs}
 use Rattle.tables.proofs.fill_elements.Statement.{statement}
 use Rattle.tables.proofs.fill_elements.Tie as tie
@@ -20,7 +20,7 @@ loop-holds : tie.Need-loop-holds Inv-loop μ-loop
 loop-holds c = (elements-start _ _ _ _ _ _ _, (search needs, (omega arith, omega arith)))
 
 returns : tie.Need-returns Inv-loop μ-loop
-returns c = (elements-stop _ _ _ _ _ _ _ _ _ _ (c .before .before .before .before .loop .inv .0) (c .before .before .before .loop-test .taken) (c .before .before .placed-at .ensures) (c .enum-told .given .1), below-no _ (c .enum-told .given .1))
+returns c = (elements-stop _ _ _ _ _ _ _ _ _ _ (c .before .before .before .before .loop .inv .0) (c .before .before .before .loop-test .taken) (c .before .before .placed-at .ensures) (c .enum-told .given .1), under-no _ (c .enum-told .given .1))
 
 cast-put4 : tie.Need-cast-put4 Inv-loop μ-loop
 cast-put4 c = record { fits = identifier-small _ _ _ _ (bytes-all _ (c .before .before .before .before .before .before .before .before .before .shared-slice-known .given)) (c .before .before .before .before .before .placed-at .ensures) (c .before .before .before .r .given .1) }
@@ -32,10 +32,10 @@ cast-put4-4 : tie.Need-cast-put4-4 Inv-loop μ-loop
 cast-put4-4 c = omega (arith, seen-ends named _ _ _ (c .before .before .before .before .before .placed-at .ensures) (c .before .before .before .r .given .1))
 
 loop-again : tie.Need-loop-again Inv-loop μ-loop
-loop-again c = (elements-go _ _ _ _ _ _ _ _ _ _ (c .before .before .before .before .before .before .before .before .before .before .loop .inv .0) (c .before .before .before .before .before .before .before .before .before .loop-test .taken) (c .before .before .before .before .before .before .before .before .placed-at .ensures) (c .before .before .before .before .before .before .r .given .1) (c .before .before .before .before .data-start .ensures .0) (c .before .before .put4 .ensures), (c .before .before .put4 .kept .0 ∙ c .before .before .before .before .before .before .before .before .before .before .loop .inv .1 .0, (omega (arith, seen-ends named _ _ _ (c .before .before .before .before .before .before .before .before .placed-at .ensures) (c .before .before .before .before .before .before .r .given .1)), omega arith)))
+loop-again c = (elements-fill _ _ _ _ _ _ _ _ _ _ (c .before .before .before .before .before .before .before .before .before .before .loop .inv .0) (c .before .before .before .before .before .before .before .before .before .loop-test .taken) (c .before .before .before .before .before .before .before .before .placed-at .ensures) (c .before .before .before .before .before .before .r .given .1) (c .before .before .before .before .data-start .ensures .0) (c .before .before .put4 .ensures), (c .before .before .put4 .kept .0 ∙ c .before .before .before .before .before .before .before .before .before .before .loop .inv .1 .0, (omega (arith, seen-ends named _ _ _ (c .before .before .before .before .before .before .before .before .placed-at .ensures) (c .before .before .before .before .before .before .r .given .1)), omega arith)))
 
 returns-2 : tie.Need-returns-2 Inv-loop μ-loop
-returns-2 c = (elements-done _ _ _ _ _ _ _ _ _ _ (c .before .loop .inv .0) (c .loop-test .left), below-is (search needs) (omega arith))
+returns-2 c = (elements-done _ _ _ _ _ _ _ _ _ _ (c .before .loop .inv .0) (c .loop-test .left), under-is (search needs) (omega arith))
 
 pub fill-elements-spec : {M : Type 1} → statement M
 fill-elements-spec =

@@ -2,7 +2,7 @@ use Prim.Native.Nat.{_+_, _-_, _*_, _^_, _≤_}
 use native.Mathlib.Omega.{arith}
 use mathlib.Core.Path.{_≡_, _∙_}
 use lib.ListN.{length}
-use Rattle.tables.specs.Fill.{below-got}
+use Rattle.tables.specs.Fill.{under-got}
 use Rattle.tables.specs.Parts.{RulesTurn, rules-start, rules-done, rules-stop, rules-go}
 use borrow.Author.Needs.{needs}
 use Rattle.tables.proofs.fill_rules.Statement.{statement}
@@ -24,13 +24,13 @@ returns : tie.Need-returns Inv-loop μ-loop
 returns c = rules-stop _ _ _ _ _ _ _ _ _ _ (c .before .before .before .before .before .before .before .before .before .before .loop .inv .0) (c .before .before .before .before .before .before .before .before .before .loop-test .taken) (c .before .before .before .before .before .before .fill-rule .ensures .0) (c .enum-told .given .1)
 
 mul-k : tie.Need-mul-k Inv-loop μ-loop
-mul-k c = omega (arith, below-got (c .before .before .before .before .before .before .before .fill-rule .ensures .1) (c .before .r .given .1) .0)
+mul-k c = omega (arith, under-got (c .before .before .before .before .before .before .before .fill-rule .ensures .1) (c .before .r .given .1) .0)
 
 add-k : tie.Need-add-k Inv-loop μ-loop
-add-k c = omega (arith, below-got (c .before .before .before .before .before .before .before .fill-rule .ensures .1) (c .before .r .given .1) .0)
+add-k c = omega (arith, under-got (c .before .before .before .before .before .before .before .fill-rule .ensures .1) (c .before .r .given .1) .0)
 
 loop-again : tie.Need-loop-again Inv-loop μ-loop
-loop-again c = (rules-go _ _ _ _ _ _ _ _ _ _ (c .before .before .before .before .before .before .before .before .before .before .before .loop .inv .0) (c .before .before .before .before .before .before .before .before .before .before .loop-test .taken) (c .before .before .before .before .before .before .before .fill-rule .ensures .0) (c .before .r .given .1), ((c .before .before .before .before .before .before .before .fill-rule .kept .1 .1 .1 .1 .0 ∙ c .before .before .before .before .before .before .before .before .before .before .before .loop .inv .1 .0 .0, c .before .before .before .before .before .before .before .fill-rule .kept .1 .1 .1 .1 .1 .0 ∙ c .before .before .before .before .before .before .before .before .before .before .before .loop .inv .1 .0 .1), (omega (arith, below-got (c .before .before .before .before .before .before .before .fill-rule .ensures .1) (c .before .r .given .1) .1), (omega (arith, below-got (c .before .before .before .before .before .before .before .fill-rule .ensures .1) (c .before .r .given .1) .0), omega arith))))
+loop-again c = (rules-go _ _ _ _ _ _ _ _ _ _ (c .before .before .before .before .before .before .before .before .before .before .before .loop .inv .0) (c .before .before .before .before .before .before .before .before .before .before .loop-test .taken) (c .before .before .before .before .before .before .before .fill-rule .ensures .0) (c .before .r .given .1), ((c .before .before .before .before .before .before .before .fill-rule .kept .1 .1 .1 .1 .0 ∙ c .before .before .before .before .before .before .before .before .before .before .before .loop .inv .1 .0 .0, c .before .before .before .before .before .before .before .fill-rule .kept .1 .1 .1 .1 .1 .0 ∙ c .before .before .before .before .before .before .before .before .before .before .before .loop .inv .1 .0 .1), (omega (arith, under-got (c .before .before .before .before .before .before .before .fill-rule .ensures .1) (c .before .r .given .1) .1), (omega (arith, under-got (c .before .before .before .before .before .before .before .fill-rule .ensures .1) (c .before .r .given .1) .0), omega arith))))
 
 returns-2 : tie.Need-returns-2 Inv-loop μ-loop
 returns-2 c = rules-done _ _ _ _ _ _ _ _ _ _ (c .before .loop .inv .0) (c .loop-test .left)
