@@ -161,7 +161,6 @@ module _ (n e t c : ℕ) (s d : List ℕ) where
         let q : (P ++ (spelt 4 S ++ M)) ++ (spelt 4 C ++ (W ++ E)) ≡ bytesWith S C = simp append-assoc in
         rw q at h₃
 
-
   some : {p : Product} {rs : List Rule} {k : ℕ} (h : Here p (take n d) rs k) → 0 < length (h .r .elements)
   some {p} {rs} {k} h = omega (arith, rule-fits p k (h .r) (h .fits) .0)
 
