@@ -139,19 +139,6 @@ foreign p j {c} {q} e = go (inProduct p j) e
 
 -- ---- as the code finds it
 
-module _ (p : Product) (id : ℕ) {r : Row} where
-  pub row-no : {c : Fault} {q : ℕ} → r ≡ rowIn kinds id → r ≡ No c q → r ≡ rowOf p id
-  unfolding rowOf offered
-  row-no e h = rw (← e, h)
-
-  pub row-yes : {out : Row} {k : Kind} {b : Bool} → r ≡ rowIn kinds id → r ≡ Is k → b ≡ inProduct p k → b ≡ true → out ≡ Is k → out ≡ rowOf p id
-  unfolding rowOf offered pick
-  row-yes e h f t o = rw (← e, h, ← f, t) o
-
-  pub row-foreign : {k : Kind} {b : Bool} → r ≡ rowIn kinds id → r ≡ Is k → b ≡ inProduct p k → b ≡ false → No Fault.Foreign 0 ≡ rowOf p id
-  unfolding rowOf offered pick
-  row-foreign e h f t = rw (← e, h, ← f, t)
-
 module _ (edition id : ℕ) {e : Edition} where
   pub kind-in : {p : Product} {r : Row} → e ≡ editionOf edition → e ≡ Edition.Of p → r ≡ rowOf p id → r ≡ kindOf edition id
   unfolding kindOf rowBy
