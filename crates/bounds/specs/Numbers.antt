@@ -27,7 +27,7 @@ use Rattle.plan.specs.Given.{given, givenBy, withData}
 use Rattle.plan.specs.Edit.{Edit, switch, rename, remove, insert, addRule, addElement, addWord, Plan, become, refuse, refuseGiven, planned, says}
 use Rattle.bounds.specs.Data.{row-zero}
 use Rattle.bounds.specs.Faults.{Gives, for-refused, for-mapped, for-whole, for-deck, gives-data}
-use Rattle.bounds.specs.Refused.{Only, Short, Own, RefusedAs, OfGiven, only-planned}
+use Rattle.bounds.specs.Refused.{Only, NotLarge, Own, RefusedAs, OfGiven, only-planned}
 
 -- the number of a fault of what is given is one of these
 unfoldable pub In : List ℕ → Fault → Type 0
@@ -85,7 +85,7 @@ of-given G p (addRule name f id s) h = λ c q z. h c q (element-says p id s c q 
 of-given G p (addElement id s) h = λ c q z. h c q (element-says p id s c q z)
 of-given G p (addWord word) h = tt
 
-plan-only : (N G : Fault → ℕ → Type 0) → Own N → (edition n : ℕ) (d : List ℕ) (e : Edit) → ((p : Product) → editionOf edition ≡ Edition.Of p → RefusedAs N (readAs p (take n d)) × ((c : Fault) (q : ℕ) → GivenSays p e c q → G c q)) → Only Short N G (planned edition n d e)
+plan-only : (N G : Fault → ℕ → Type 0) → Own N → (edition n : ℕ) (d : List ℕ) (e : Edit) → ((p : Product) → editionOf edition ≡ Edition.Of p → RefusedAs N (readAs p (take n d)) × ((c : Fault) (q : ℕ) → GivenSays p e c q → G c q)) → Only NotLarge N G (planned edition n d e)
 plan-only N G o edition n d e w = only-planned N G o edition n d e (λ p f. (w p f .0, of-given G p e (w p f .1)))
 
 abbrev Fine : Fault → ℕ → Type 0
@@ -102,7 +102,7 @@ pub given-says : (edition n : ℕ) (d : List ℕ) (e : Edit) {c : Fault} {q : �
 unfolding says
 given-says edition n d e {c} {q} = go (planned edition n d e) (plan-only Fine (GivenIn edition e) fine edition n d e (λ p f. ((λ x y z. tt), (λ x y g. (p, (f, g))))))
   where
-    go : (x : Plan) → Only Short Fine (GivenIn edition e) x → says x ≡ Outcome.Given c q → GivenIn edition e c q
+    go : (x : Plan) → Only NotLarge Fine (GivenIn edition e) x → says x ≡ Outcome.Given c q → GivenIn edition e c q
     go (become rs) f z = absurd (let u : _≡_ {A = ℕ} 0 1 = cc in omega arith)
     go (refuse a b) f z = absurd (let u : _≡_ {A = ℕ} 0 1 = cc in omega arith)
     go (refuseGiven a b) f z =
@@ -115,7 +115,7 @@ pub own-says : (N : Fault → ℕ → Type 0) → Own N → (edition n : ℕ) (d
 unfolding says
 own-says N o edition n d e {c} {q} w = go (planned edition n d e) (plan-only N Fine o edition n d e (λ p f. (w p f, (λ x y g. tt))))
   where
-    go : (x : Plan) → Only Short N Fine x → says x ≡ Outcome.No c q → N c q
+    go : (x : Plan) → Only NotLarge N Fine x → says x ≡ Outcome.No c q → N c q
     go (become rs) f z = absurd (let u : _≡_ {A = ℕ} 0 1 = cc in omega arith)
     go (refuse a b) f z =
         let ec : a ≡ c = cc in

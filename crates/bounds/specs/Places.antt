@@ -30,7 +30,7 @@ use Rattle.view.specs.Asked.{asked, askedBy, askedOf, askedFirst}
 use Rattle.view.specs.View.{Inside, nameAt, nameView, viewSays}
 use Rattle.view.specs.Word.{wordAt, elementWord, ruleWord, wordView}
 use Rattle.bounds.specs.Data.{most, given-end}
-use Rattle.bounds.specs.Refused.{Only, Short, Own, RefusedAs, OfGiven, only-planned}
+use Rattle.bounds.specs.Refused.{Only, NotLarge, Own, RefusedAs, OfGiven, only-planned}
 
 -- what is lent to an edit beside its buffer, and is read, is bytes
 unfoldable pub Lent : Edit → Type 0
@@ -73,7 +73,7 @@ pub plan-small : (edition n : ℕ) (d : List ℕ) (e : Edit) → Bytes d → Len
 unfolding says
 plan-small edition n d e b h = go (planned edition n d e) (only-planned Small Small small-own edition n d e (λ p f. ((λ c q z. rw z at (read-small edition p (take n d) f (bytes-take n d b))), given-small edition p f e h)))
   where
-    go : (x : Plan) → Only Short Small Small x → placeOf (says x) ≤ 60000
+    go : (x : Plan) → Only NotLarge Small Small x → placeOf (says x) ≤ 60000
     go (become rs) f = f
     go (refuse c q) f = f
     go (refuseGiven c q) f = f

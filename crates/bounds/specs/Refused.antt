@@ -30,8 +30,8 @@ Only B N G (refuseGiven c q) = G c q
 abbrev Any : List Rule → Type 0
 Any rs = Unit {0}
 
-abbrev pub Short : List Rule → Type 0
-Short rs = length (written rs) ≤ 60000
+abbrev pub NotLarge : List Rule → Type 0
+NotLarge rs = length (written rs) ≤ 60000
 
 -- what an edit judges itself, beside its deck
 pub record Own (N : Fault → ℕ → Type 0) : Type 0 where
@@ -116,11 +116,11 @@ module _ (N G : Fault → ℕ → Type 0) (o : Own N) where
   only-edited p (addElement id s) rs h = only-last _ _ (λ r. only-full _ _ (only-given _ _ h (λ x. tt)))
   only-edited p (addWord word) rs h = only-last _ _ (λ r. only-list _ _ (λ id ws. only-full _ _ (only-text word _ tt)))
 
-  only-room : (cap : ℕ) (q : Plan) → Only Any N G q → Only Short N G (inRoom cap q)
+  only-room : (cap : ℕ) (q : Plan) → Only Any N G q → Only NotLarge N G (inRoom cap q)
   unfolding room pick
   only-room cap (become rs) f = few (leb (length rs) 256) (leb (length (written rs)) 60000) refl (leb (length (written rs)) cap)
     where
-      few : (a b : Bool) → leb (length (written rs)) 60000 ≡ b → (c : Bool) → Only Short N G (pick a (pick b (pick c (become rs) (refuse Fault.Room 0)) (refuse Fault.Large 0)) (refuse Fault.Rules 0))
+      few : (a b : Bool) → leb (length (written rs)) 60000 ≡ b → (c : Bool) → Only NotLarge N G (pick a (pick b (pick c (become rs) (refuse Fault.Room 0)) (refuse Fault.Large 0)) (refuse Fault.Rules 0))
       few true true e true = leb-true (length (written rs)) 60000 e
       few true true e false = o .room
       few true false e c = o .large
@@ -128,18 +128,18 @@ module _ (N G : Fault → ℕ → Type 0) (o : Own N) where
   only-room cap (refuse c q) f = f
   only-room cap (refuseGiven c q) f = f
 
-  pub only-planned : (edition n : ℕ) (d : List ℕ) (e : Edit) → ((p : Product) → editionOf edition ≡ Edition.Of p → RefusedAs N (readAs p (take n d)) × OfGiven G p e) → Only Short N G (planned edition n d e)
+  pub only-planned : (edition n : ℕ) (d : List ℕ) (e : Edit) → ((p : Product) → editionOf edition ≡ Edition.Of p → RefusedAs N (readAs p (take n d)) × OfGiven G p e) → Only NotLarge N G (planned edition n d e)
   unfolding planned pick
   only-planned edition n d e w = by (editionOf edition) refl
     where
-      read : (p : Product) (a : Answer (List Rule)) → RefusedAs N a × OfGiven G p e → Only Short N G (plan p (length d) e a)
+      read : (p : Product) (a : Answer (List Rule)) → RefusedAs N a × OfGiven G p e → Only NotLarge N G (plan p (length d) e a)
       read p (got rs m) f = only-room (length d) (edited p e rs) (only-edited p e rs (f .1))
       read p (refused c q) f = f .0 c q refl
 
-      stated : (p : Product) (t : Bool) → editionOf edition ≡ Edition.Of p → Only Short N G (pick t (plan p (length d) e (readAs p (take n d))) (refuse Fault.Stated 0))
+      stated : (p : Product) (t : Bool) → editionOf edition ≡ Edition.Of p → Only NotLarge N G (pick t (plan p (length d) e (readAs p (take n d))) (refuse Fault.Stated 0))
       stated p true f = read p (readAs p (take n d)) (w p f)
       stated p false f = o .stated
 
-      by : (x : Edition) → editionOf edition ≡ x → Only Short N G (planBy x n d e)
+      by : (x : Edition) → editionOf edition ≡ x → Only NotLarge N G (planBy x n d e)
       by (Edition.Of p) f = stated p (leb n (length d)) f
       by Edition.Unknown f = o .edition
