@@ -4,7 +4,7 @@ use native.Mathlib.Omega.{arith}
 use mathlib.Core.Path.{_≡_, refl, _∙_}
 use mathlib.Core.Bool.{Bool, true, false, _||_}
 use mathlib.Core.List.{List, [], _∷_}
-use lib.Dec.{leb, eqb}
+use lib.Dec.{eqb}
 use lib.ListN.{length, take}
 use borrow.Author.Needs.{needs}
 use borrow.Author.Tests.{eqb-true}
@@ -14,7 +14,7 @@ use Rattle.format.specs.declared.Outcome.{Outcome}
 use Rattle.format.specs.declared.Outcome.the-variants as Outcome
 use Rattle.format.specs.Fault.{numberOf}
 use Rattle.format.specs.Number.{within, within-is}
-use Rattle.format.specs.Format.{Answer, got, refused, whole, pick}
+use Rattle.format.specs.Format.{refused, whole}
 use Rattle.kind.specs.declared.Product.{Product}
 use Rattle.kind.specs.declared.Edition.{Edition}
 use Rattle.kind.specs.declared.Edition.the-variants as Edition
@@ -22,14 +22,12 @@ use Rattle.kind.specs.declared.Row.{Row}
 use Rattle.kind.specs.declared.Row.the-variants as Row
 use Rattle.kind.specs.Kinds.{has, kinds, rowIn, offered, rowOf, lacking, foreign, editionOf}
 use Rattle.element.specs.Data.{dataOf}
-use Rattle.rule.specs.Rule.{Rule}
 use Rattle.deck.specs.Deck.{readAs}
-use Rattle.deck.specs.Written.{written}
 use Rattle.plan.specs.Given.{given, givenBy, withData}
-use Rattle.plan.specs.Edit.{Edit, switch, rename, remove, insert, addRule, addElement, addWord, Plan, become, refuse, refuseGiven, edited, room, inRoom, plan, planBy, planned, says}
+use Rattle.plan.specs.Edit.{Edit, switch, rename, remove, insert, addRule, addElement, addWord, Plan, become, refuse, refuseGiven, planned, says}
 use Rattle.bounds.specs.Data.{row-zero}
 use Rattle.bounds.specs.Faults.{Gives, for-refused, for-mapped, for-whole, for-deck, gives-data}
-use Rattle.bounds.specs.Refused.{Only, Own, RefusedAs, OfGiven, only-edited}
+use Rattle.bounds.specs.Refused.{Only, NotLarge, Own, RefusedAs, OfGiven, only-planned}
 
 -- the number of a fault of what is given is one of these
 unfoldable pub In : List ℕ → Fault → Type 0
@@ -78,51 +76,52 @@ GivenSays p (addRule name f id s) c q = ElementSays (rowOf p id) c q
 GivenSays p (addElement id s) c q = ElementSays (rowOf p id) c q
 GivenSays p (addWord word) c q = ⊥
 
-of-given : (p : Product) (e : Edit) → OfGiven (GivenSays p e) p e
-of-given p (switch k on) = tt
-of-given p (rename k name) = tt
-of-given p (remove k) = tt
-of-given p (insert k second j) = second-says p second
-of-given p (addRule name f id s) = element-says p id s
-of-given p (addElement id s) = element-says p id s
-of-given p (addWord word) = tt
+of-given : (G : Fault → ℕ → Type 0) (p : Product) (e : Edit) → ((c : Fault) (q : ℕ) → GivenSays p e c q → G c q) → OfGiven G p e
+of-given G p (switch k on) h = tt
+of-given G p (rename k name) h = tt
+of-given G p (remove k) h = tt
+of-given G p (insert k second j) h = λ c q z. h c q (second-says p second c q z)
+of-given G p (addRule name f id s) h = λ c q z. h c q (element-says p id s c q z)
+of-given G p (addElement id s) h = λ c q z. h c q (element-says p id s c q z)
+of-given G p (addWord word) h = tt
 
-abbrev Any : Fault → ℕ → Type 0
-Any c q = Unit {0}
+plan-only : (N G : Fault → ℕ → Type 0) → Own N → (edition n : ℕ) (d : List ℕ) (e : Edit) → ((p : Product) → editionOf edition ≡ Edition.Of p → RefusedAs N (readAs p (take n d)) × ((c : Fault) (q : ℕ) → GivenSays p e c q → G c q)) → Only NotLarge N G (planned edition n d e)
+plan-only N G o edition n d e w = only-planned N G o edition n d e (λ p f. (w p f .0, of-given G p e (w p f .1)))
 
-any-own : Own Any
-any-own = record { absent = tt; copied = tt; text = tt; full = tt; last = tt }
+abbrev Fine : Fault → ℕ → Type 0
+Fine c q = Unit {0}
 
-room-given : (G : Fault → ℕ → Type 0) (cap : ℕ) (x : Plan) {c : Fault} {q : ℕ} → Only Any G x → says (inRoom cap x) ≡ Outcome.Given c q → G c q
-unfolding room says pick
-room-given G cap (become rs) {c} {q} f e = few (leb (length rs) 256) (leb (length (written rs)) 60000) (leb (length (written rs)) cap) e
+fine : Own Fine
+fine = record { edition = tt; stated = tt; absent = tt; copied = tt; last = tt; full = tt; text = tt; rules = tt; large = tt; room = tt }
+
+-- of the product that the edition is of
+abbrev pub GivenIn : ℕ → Edit → Fault → ℕ → Type 0
+GivenIn edition e c q = (p : Product) × ((editionOf edition ≡ Edition.Of p) × GivenSays p e c q)
+
+pub given-says : (edition n : ℕ) (d : List ℕ) (e : Edit) {c : Fault} {q : ℕ} → says (planned edition n d e) ≡ Outcome.Given c q → GivenIn edition e c q
+unfolding says
+given-says edition n d e {c} {q} = go (planned edition n d e) (plan-only Fine (GivenIn edition e) fine edition n d e (λ p f. ((λ x y z. tt), (λ x y g. (p, (f, g))))))
   where
-    few : (a b d : Bool) → says (pick a (pick b (pick d (become rs) (refuse Fault.Room 0)) (refuse Fault.Large 0)) (refuse Fault.Rules 0)) ≡ Outcome.Given c q → G c q
-    few true true true z = absurd (let u : _≡_ {A = ℕ} 0 1 = cc in omega arith)
-    few true true false z = absurd (let u : _≡_ {A = ℕ} 0 1 = cc in omega arith)
-    few true false d z = absurd (let u : _≡_ {A = ℕ} 0 1 = cc in omega arith)
-    few false b d z = absurd (let u : _≡_ {A = ℕ} 0 1 = cc in omega arith)
-room-given G cap (refuse d o) f e = absurd (let u : _≡_ {A = ℕ} 0 1 = cc in omega arith)
-room-given G cap (refuseGiven d o) {c} {q} f e =
-    let ec : d ≡ c = cc in
-    let eq : o ≡ q = cc in
-    rw (← ec, ← eq) f
+    go : (x : Plan) → Only NotLarge Fine (GivenIn edition e) x → says x ≡ Outcome.Given c q → GivenIn edition e c q
+    go (become rs) f z = absurd (let u : _≡_ {A = ℕ} 0 1 = cc in omega arith)
+    go (refuse a b) f z = absurd (let u : _≡_ {A = ℕ} 0 1 = cc in omega arith)
+    go (refuseGiven a b) f z =
+        let ec : a ≡ c = cc in
+        let eq : b ≡ q = cc in
+        rw (← ec, ← eq) f
 
-pub given-says : (edition n : ℕ) (d : List ℕ) (e : Edit) {c : Fault} {q : ℕ} → says (planned edition n d e) ≡ Outcome.Given c q → (p : Product) × ((editionOf edition ≡ Edition.Of p) × GivenSays p e c q)
-unfolding planned says pick
-given-says edition n d e {c} {q} = by (editionOf edition) refl
+-- what holds of an edit's own faults at their places, and of those of its deck, holds of every refusal that is not of what it is given
+pub own-says : (N : Fault → ℕ → Type 0) → Own N → (edition n : ℕ) (d : List ℕ) (e : Edit) {c : Fault} {q : ℕ} → ((p : Product) → editionOf edition ≡ Edition.Of p → RefusedAs N (readAs p (take n d))) → says (planned edition n d e) ≡ Outcome.No c q → N c q
+unfolding says
+own-says N o edition n d e {c} {q} w = go (planned edition n d e) (plan-only N Fine o edition n d e (λ p f. (w p f, (λ x y g. tt))))
   where
-    read : (p : Product) (a : Answer (List Rule)) → says (plan p (length d) e a) ≡ Outcome.Given c q → GivenSays p e c q
-    read p (got rs m) z = room-given (GivenSays p e) (length d) (edited p e rs) (only-edited Any (GivenSays p e) any-own p e rs (of-given p e)) z
-    read p (refused x y) z = absurd (let u : _≡_ {A = ℕ} 0 1 = cc in omega arith)
-
-    stated : (p : Product) (t : Bool) → says (pick t (plan p (length d) e (readAs p (take n d))) (refuse Fault.Stated 0)) ≡ Outcome.Given c q → GivenSays p e c q
-    stated p true z = read p (readAs p (take n d)) z
-    stated p false z = absurd (let u : _≡_ {A = ℕ} 0 1 = cc in omega arith)
-
-    by : (o : Edition) → editionOf edition ≡ o → says (planBy o n d e) ≡ Outcome.Given c q → (p : Product) × ((editionOf edition ≡ Edition.Of p) × GivenSays p e c q)
-    by (Edition.Of p) f z = (p, (f, stated p (leb n (length d)) z))
-    by Edition.Unknown f z = absurd (let u : _≡_ {A = ℕ} 0 1 = cc in omega arith)
+    go : (x : Plan) → Only NotLarge N Fine x → says x ≡ Outcome.No c q → N c q
+    go (become rs) f z = absurd (let u : _≡_ {A = ℕ} 0 1 = cc in omega arith)
+    go (refuse a b) f z =
+        let ec : a ≡ c = cc in
+        let eq : b ≡ q = cc in
+        rw (← ec, ← eq) f
+    go (refuseGiven a b) f z = absurd (let u : _≡_ {A = ℕ} 0 1 = cc in omega arith)
 
 -- ---- so that every such number is one of 34 to 45
 unfoldable Between : List ℕ → Type 0

@@ -7,7 +7,7 @@ use mathlib.Core.Path.{_≡_, refl, sym, ap, _∙_}
 use mathlib.Core.Bool.{Bool, true, false}
 use mathlib.Core.List.{List}
 use lib.Dec.{leb}
-use lib.ListN.{length}
+use lib.ListN.{length, take}
 use borrow.Author.Needs.{needs}
 use Rattle.format.specs.declared.Fault.{Fault}
 use Rattle.format.specs.declared.Fault.the-variants as Fault
@@ -34,7 +34,8 @@ use Rattle.tables.specs.Tables.{tabled, readSays, rulesLeft, rulesAfter, elemen
 use Rattle.plan.specs.Edit.{Edit, Plan, become, refuse, refuseGiven, planned, says, leaves}
 use Rattle.plan.specs.Given.{given, givenBy, withData}
 use Rattle.plan.specs.Found.{Edits}
-use Rattle.bounds.specs.Numbers.{Ranged, ElementSays, element-says, element-ranged, row-refuses, GivenSays, given-says, given-ranged}
+use Rattle.bounds.specs.Refused.{Own, RefusedAs}
+use Rattle.bounds.specs.Numbers.{Ranged, ElementSays, element-says, element-ranged, row-refuses, GivenIn, given-says, own-says, given-ranged}
 
 -- the answer and the buffer of an edit are functions of what it was called with: two outcomes that the promise allows coincide
 pub edits-coincide : (edition n : ℕ) (e : Edit) (d : List ℕ) {r q : Outcome} {x y : List ℕ} → Edits edition n e d r x → Edits edition n e d q y → (r ≡ q) × (x ≡ y)
@@ -64,11 +65,15 @@ read-as-found edition s rules elements = by (editionOf edition)
     by (Edition.Of p) h = left (readAs p s) (tabled (length rules) (length elements) (readAs p s)) h p
     by Edition.Unknown h = (refl, refl)
 
+-- an edit refuses by 1, 15, 16, 17 to 22, at the places that `Own` lists, or as its deck is refused; what holds of each of these holds of every such refusal
+pub edit-own : (N : Fault → ℕ → Type 0) → Own N → (edition n : ℕ) (e : Edit) (d : List ℕ) {c : Fault} {q : ℕ} {x : List ℕ} → ((p : Product) → editionOf edition ≡ Edition.Of p → RefusedAs N (readAs p (take n d))) → Edits edition n e d (Outcome.No c q) x → N c q
+edit-own N o edition n e d w f = own-says N o edition n d e w (sym (f .0))
+
 -- ---- "34 to 45: 2 to 13 plus 32: the same fault in the second deck or in given element data"
 
 -- of an edit: of the second deck any of these; of an element only those that document 01 lists, and only where it is given one (`GivenSays`)
 pub edit-given : (edition n : ℕ) (e : Edit) (d : List ℕ) {c : Fault} {q : ℕ} {x : List ℕ} → Edits edition n e d (Outcome.Given c q) x
-    → ((34 ≤ codeOf (Outcome.Given c q)) × (codeOf (Outcome.Given c q) ≤ 45)) × ((p : Product) × ((editionOf edition ≡ Edition.Of p) × GivenSays p e c q))
+    → ((34 ≤ codeOf (Outcome.Given c q)) × (codeOf (Outcome.Given c q) ≤ 45)) × GivenIn edition e c q
 unfolding Ranged
 edit-given edition n e d f = (given-ranged edition n d e (sym (f .0)), given-says edition n d e (sym (f .0)))
 
