@@ -49,13 +49,13 @@ digitOf (Is (Dates Exception)) = 9
 digitOf (No c q) = 0
 
 -- the digits of n identifiers from i on, the first lowest
-unfoldable pub digits : ℕ → ℕ → ℕ
-digits i zero = 0
-digits i (suc n) = digitOf (rowIn kinds i) + 16 * digits (suc i) n
+unfoldable pub digitsFrom : ℕ → ℕ → ℕ
+digitsFrom i zero = 0
+digitsFrom i (suc n) = digitOf (rowIn kinds i) + 16 * digitsFrom (suc i) n
 
 -- line n: the sixteen identifiers from 16 n on
 unfoldable pub lineOf : ℕ → ℕ
-lineOf n = digits (16 * n) 16
+lineOf n = digitsFrom (16 * n) 16
 
 -- ---- a digit of a line gives the row back
 
@@ -74,13 +74,13 @@ digit-small (Is (Dates Action)) = omega arith
 digit-small (Is (Dates Exception)) = omega arith
 digit-small (No c q) = omega arith
 
-digit-in : (i n k : ℕ) → k < n → digits i n / 2 ^ (4 * k) % 16 ≡ digitOf (rowIn kinds (i + k))
-unfolding digits
+digit-in : (i n k : ℕ) → k < n → digitsFrom i n / 2 ^ (4 * k) % 16 ≡ digitOf (rowIn kinds (i + k))
+unfolding digitsFrom
 digit-in i zero k h = absurd (omega arith)
 digit-in i (suc n) zero h = rw add-zero (omega (arith, digit-small (rowIn kinds i)))
 digit-in i (suc n) (suc k) h =
     let d = digitOf (rowIn kinds i) in
-    let r = digits (suc i) n in
+    let r = digitsFrom (suc i) n in
     let z : suc i + k ≡ i + suc k = omega arith in
     let e : 4 * suc k ≡ 4 + 4 * k = omega arith in
     let q : (d + 16 * r) / 2 ^ 4 ≡ r = omega (arith, digit-small (rowIn kinds i)) in
@@ -152,9 +152,9 @@ module _ (p : Product) (id : ℕ) {d : ℕ} {b : Bool} where
   unfolding rowOf pick
   row-foreign e f t = rw (offered-by p kinds id kept, ← e, ← f, t)
 
-  pub row-is : {r : Row} → d ≡ digitOf (rowIn kinds id) → b ≡ lacksAt p d → b ≡ false → r ≡ rowAt d → r ≡ rowOf p id
+  pub row-has : {r : Row} → d ≡ digitOf (rowIn kinds id) → b ≡ lacksAt p d → b ≡ false → r ≡ rowAt d → r ≡ rowOf p id
   unfolding rowOf pick
-  row-is e f t h = rw (offered-by p kinds id kept, ← e, ← f, t) (h ∙ ap rowAt e ∙ row-back kinds id kept)
+  row-has e f t h = rw (offered-by p kinds id kept, ← e, ← f, t) (h ∙ ap rowAt e ∙ row-back kinds id kept)
 
 -- a line without an identifier
 unfoldable pub Off : ℕ → List ℕ → Type 0
@@ -175,8 +175,8 @@ unfolding rowIn AllOff pick
 off-row n id [] e o = refl
 off-row n id ((k, ids) ∷ rows) e o = rw (off-has n id ids e (o .0)) (off-row n id rows e (o .1))
 
-off-digits : (n i k : ℕ) → AllOff n kinds → 16 * n ≤ i → i + k ≤ 16 * n + 16 → digits i k ≡ 0
-unfolding digits digitOf
+off-digits : (n i k : ℕ) → AllOff n kinds → 16 * n ≤ i → i + k ≤ 16 * n + 16 → digitsFrom i k ≡ 0
+unfolding digitsFrom digitOf
 off-digits n i zero o h l = refl
 off-digits n i (suc k) o h l = rw (off-row n i kinds (omega arith) o, off-digits n (suc i) k o (omega arith) (omega arith))
 
