@@ -93,7 +93,7 @@ pub row-zero : (p : Product) (id : ℕ) → rowPlace (rowOf p id) ≡ 0
 unfolding rowOf
 row-zero p id = offered-place p (rowIn kinds id) (row-place kinds id)
 
-whole-end : {A : Type 0} (n : ℕ) (a : Answer A) → endOf (whole n a) ≤ endOf a
+pub whole-end : {A : Type 0} (n : ℕ) (a : Answer A) → endOf (whole n a) ≤ endOf a
 unfolding whole endOf pick
 whole-end n (got x m) = go (eqb m n)
   where

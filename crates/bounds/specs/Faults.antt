@@ -45,7 +45,7 @@ module _ (P : Fault → Type 0) where
   for-mapped f (got x n) h = tt
   for-mapped f (refused c o) h = h
 
-  for-shift : {A : Type 0} (k : ℕ) (q : Answer A) → For P q → For P (shift k q)
+  pub for-shift : {A : Type 0} (k : ℕ) (q : Answer A) → For P q → For P (shift k q)
   unfolding For shift
   for-shift k (got x n) h = tt
   for-shift k (refused c o) h = h
@@ -111,7 +111,7 @@ module _ (P : Fault → Type 0) where
   for-each a f i zero s = tt
   for-each a f i (suc k) s = for-then (a i .read s) _ (f i s) (λ x n. for-mapped _ (eachRead a (i + 1) k (drop n s)) (for-each a f (i + 1) k (drop n s)))
 
-  gives-each : {A : Type 0} (a : ℕ → Format A) → ((i : ℕ) → Gives P (a i)) → (i k : ℕ) → Gives P (each a i k)
+  pub gives-each : {A : Type 0} (a : ℕ → Format A) → ((i : ℕ) → Gives P (a i)) → (i k : ℕ) → Gives P (each a i k)
   unfolding Gives each
   gives-each a f i k s = for-each a f i k s
 
@@ -145,7 +145,7 @@ module _ (P : Fault → Type 0) where
     unfolding fixed
     gives-fixed k v c h = gives-via _ _ _ _ (gives-judged _ c (number k) h (gives-number k))
 
-    gives-count : (k low high : ℕ) → Gives P (count k low high)
+    pub gives-count : (k low high : ℕ) → Gives P (count k low high)
     unfolding count
     gives-count k low high = gives-judged _ Fault.Count (number k) many (gives-number k)
 
@@ -203,7 +203,7 @@ module _ (P : Fault → Type 0) where
       unfolding sized
       gives-sized a f = gives-via _ _ _ _ (gives-judged _ Fault.Size _ size (gives-pair (number 4) _ (gives-number 4) (λ n. gives-measured a f)))
 
-      gives-rule : (p : Product) (i : ℕ) → Gives P (rule p i)
+      pub gives-rule : (p : Product) (i : ℕ) → Gives P (rule p i)
       unfolding rule fields fromUnknown2 fromUnknown4 seq
       gives-rule p i =
           let n = gives-number 4 in

@@ -4,3 +4,4 @@ pub mod Refused
 pub mod Places
 pub mod Faults
 pub mod Numbers
+pub mod Listed
