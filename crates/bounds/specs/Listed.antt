@@ -12,7 +12,7 @@ use Rattle.format.specs.declared.Fault.the-variants as Fault
 use Rattle.format.specs.declared.Outcome.{Outcome}
 use Rattle.format.specs.declared.Outcome.the-variants as Outcome
 use Rattle.format.specs.Fault.{numberOf}
-use Rattle.format.specs.Format.{Answer, got, refused, endOf, shift, mapped, andThen, whole, pick, Format, apart}
+use Rattle.format.specs.Format.{Answer, got, refused, endOf, shift, mapped, andThen, whole, pick, Format, Bytes, apart}
 use Rattle.format.specs.Join.{pair, pairRead, judge, judgeOf, judged, via, seq, _then_}
 use Rattle.format.specs.Number.{number, numberRead, value, fixed, bytes, within, within-is}
 use Rattle.format.specs.Each.{each, counted}
@@ -20,13 +20,19 @@ use Rattle.format.specs.Rows.{total}
 use Rattle.kind.specs.declared.Product.{Product}
 use Rattle.kind.specs.declared.Edition.{Edition}
 use Rattle.kind.specs.declared.Edition.the-variants as Edition
-use Rattle.kind.specs.Kinds.{editionOf}
-use Rattle.element.specs.Data.{wordsOf}
+use Rattle.kind.specs.declared.Row.{Row}
+use Rattle.kind.specs.declared.Row.the-variants as Row
+use Rattle.kind.specs.Kinds.{editionOf, rowOf}
+use Rattle.element.specs.Data.{wordsOf, dataOf}
 use Rattle.element.specs.Element.{Element}
 use Rattle.rule.specs.Rule.{Rule, rule, elementsIn}
 use Rattle.deck.specs.declared.Scan.{Scan}
 use Rattle.deck.specs.declared.Scan.the-variants as Scan
 use Rattle.deck.specs.Deck.{mark, ruleCount, header, deck, readAs, readBy, readDeck, answered, scanned}
+use Rattle.deck.specs.Written.{written}
+use Rattle.plan.specs.Given.{given, givenBy, withData}
+use Rattle.plan.specs.Edit.{Edit, switch, rename, remove, insert, addRule, addElement, addWord, Plan, become, refuse, refuseGiven, edited, room, inRoom, plan, planBy, planned, says}
+use Rattle.plan.specs.Found.{Edits}
 use Rattle.tables.specs.Tables.{ruleWidth, elementWidth, inTables, tabled, readSays}
 use Rattle.view.specs.declared.View.{View}
 use Rattle.view.specs.declared.View.the-variants as View
@@ -36,9 +42,11 @@ use Rattle.view.specs.Asked.{asked, askedBy, askedOf, askedFirst}
 use Rattle.view.specs.View.{nameAt, nameView, viewSays}
 use Rattle.view.specs.Word.{wordAt, elementWord, ruleWord, wordView}
 use Rattle.view.specs.Fixed.{fixedAt, fixedFields}
-use Rattle.bounds.specs.Data.{whole-end}
-use Rattle.bounds.specs.Faults.{For, Gives, for-mapped, for-shift, gives-each, gives-count, gives-rule}
-use Rattle.bounds.specs.Refused.{RefusedAs}
+use Rattle.bounds.specs.Data.{most, given-end, whole-end}
+use Rattle.bounds.specs.Faults.{For, Gives, for-refused, for-mapped, for-shift, for-whole, gives-each, gives-count, gives-data, gives-rule}
+use Rattle.bounds.specs.Refused.{Only, Own, RefusedAs, OfGiven, only-edited}
+use Rattle.bounds.specs.Numbers.{row-refuses}
+use Rattle.bounds.specs.Places.{Lent}
 
 -- the table's places
 abbrev pub Listed : Fault → ℕ → Type 0
@@ -310,3 +318,82 @@ FieldsListed (Fielded.No c q) = Lists (viewNumbers 0) (Outcome.No c q)
 pub fixed-listed : (edition k : ℕ) (s : List ℕ) {c : Fault} {q : ℕ} → fixedFields edition k s ≡ Fielded.No c q → Lists (viewNumbers 0) (Outcome.No c q)
 unfolding fixedFields
 fixed-listed edition k s e = let f = asked-listed Fielded.No (λ p. fixedAt) 0 FieldsListed (λ c q h. h) (λ p at r. tt) edition k s in rw e at f
+
+-- ---- what is given, and the edits
+
+-- data of an element, and its identifier: 41 and 42 at 0
+pub element-faulty : (p : Product) (id : ℕ) (s : List ℕ) → Bytes s → RefusedAs Faulty (given p id s)
+unfolding given Gives within endOf
+element-faulty p id s b c q e = go (rowOf p id) refl e
+  where
+    small : q ≤ most
+    small = rw e at (given-end p id s b)
+
+    go : (r : Row) → rowOf p id ≡ r → givenBy r id s ≡ refused c q → Faulty c q
+    go (Row.Is k) h z =
+        let d = gives-data Always (λ q. (refl, λ h. h)) (λ q. (refl, λ h. h)) (λ q. (refl, λ h. h)) (λ q. (refl, λ h. h)) (λ q. (refl, λ h. h)) k s in
+        let f = for-refused Always (for-mapped Always (withData id) (whole (length s) (dataOf k .read s)) (for-whole Always (length s) (dataOf k .read s) (λ q. (refl, λ h. h)) d)) z q in
+        let l : q ≤ 60000 = omega (arith, small) in
+        (f .0, (l, f .1 l))
+    go (Row.No d o) h z = row-refuses Faulty (refl, (omega arith, omega arith)) (refl, (omega arith, omega arith)) p id (h ∙ (let w : Row.No d o ≡ Row.No c q = cc in w))
+
+-- "1, 15, 2 to 13 on its deck, 34 to 45 on a second deck, 16 (k first), 22, 21, 17, 34 to 45 on an element, 18, 19, 20"
+abbrev pub editNumbers : List Numbers
+editNumbers = numbers 1 13 60000 ∷ numbers 15 15 0 ∷ numbers 16 16 1 ∷ numbers 17 22 0 ∷ numbers 34 45 60000 ∷ []
+
+given-listed : (c : Fault) (q : ℕ) → Faulty c q → Lists editNumbers (Outcome.Given c q)
+given-listed c q f =
+    let w = within-is 2 13 (numberOf c) (f .0) in
+    let n = numberOf c + 32 in
+    (among-later _ _ n q (among-later _ _ n q (among-later _ _ n q (among-later _ _ n q (among-first 34 45 60000 [] n q (omega arith) (omega arith) (f .1 .0))))), f .1 .1)
+
+abbrev OwnListed : Fault → ℕ → Type 0
+OwnListed c q = Lists editNumbers (Outcome.No c q)
+
+abbrev GivenListed : Fault → ℕ → Type 0
+GivenListed c q = Lists editNumbers (Outcome.Given c q)
+
+own-listed : Own OwnListed
+unfolding among within
+own-listed = record { absent = (refl, omega arith); copied = (refl, omega arith); text = (refl, refl); full = (refl, refl); last = (refl, refl) }
+
+lent-listed : (p : Product) (e : Edit) → Lent e → OfGiven GivenListed p e
+unfolding Lent
+lent-listed p (switch k on) h = tt
+lent-listed p (rename k name) h = tt
+lent-listed p (remove k) h = tt
+lent-listed p (insert k second j) h = λ c q e. given-listed c q (deck-faulty p second c q e)
+lent-listed p (addRule name f id s) h = λ c q e. given-listed c q (element-faulty p id s h c q e)
+lent-listed p (addElement id s) h = λ c q e. given-listed c q (element-faulty p id s h c q e)
+lent-listed p (addWord word) h = tt
+
+room-listed : (cap : ℕ) (x : Plan) → Only OwnListed GivenListed x → Lists editNumbers (says (inRoom cap x))
+unfolding room says pick among within
+room-listed cap (become rs) f = few (leb (length rs) 256) (leb (length (written rs)) 60000) (leb (length (written rs)) cap)
+  where
+    few : (a b c : Bool) → Lists editNumbers (says (pick a (pick b (pick c (become rs) (refuse Fault.Room 0)) (refuse Fault.Large 0)) (refuse Fault.Rules 0)))
+    few true true true = tt
+    few true true false = (refl, refl)
+    few true false c = (refl, refl)
+    few false b c = (refl, refl)
+room-listed cap (refuse c q) f = f
+room-listed cap (refuseGiven c q) f = f
+
+plan-listed : (edition n : ℕ) (d : List ℕ) (e : Edit) → Lent e → Lists editNumbers (says (planned edition n d e))
+unfolding planned says pick among within
+plan-listed edition n d e h = by (editionOf edition)
+  where
+    read : (p : Product) (a : Answer (List Rule)) → readAs p (take n d) ≡ a → Lists editNumbers (says (plan p (length d) e a))
+    read p (got rs m) f = room-listed (length d) (edited p e rs) (only-edited OwnListed GivenListed own-listed p e rs (lent-listed p e h))
+    read p (refused c q) f = faulty-listed (numbers 15 15 0 ∷ numbers 16 16 1 ∷ numbers 17 22 0 ∷ numbers 34 45 60000 ∷ []) c q (deck-faulty p (take n d) c q f)
+
+    stated : (p : Product) (t : Bool) → Lists editNumbers (says (pick t (plan p (length d) e (readAs p (take n d))) (refuse Fault.Stated 0)))
+    stated p true = read p (readAs p (take n d)) refl
+    stated p false = (refl, refl)
+
+    by : (o : Edition) → Lists editNumbers (says (planBy o n d e))
+    by (Edition.Of p) = stated p (leb n (length d))
+    by Edition.Unknown = (refl, refl)
+
+pub edit-listed : (edition n : ℕ) (e : Edit) (d : List ℕ) {r : Outcome} {x : List ℕ} → Lent e → Edits edition n e d r x → Lists editNumbers r
+edit-listed edition n e d h f = rw (f .0) (plan-listed edition n d e h)
