@@ -24,7 +24,6 @@ use Rattle.kind.specs.Kinds.{kinds, rowIn}
 use Rattle.element.specs.Data.{oneZero, markerData, simpleData, wordData, sizeData, limit, dateData, dataOf}
 use Rattle.element.specs.Element.{dataBy, identifier, element}
 use Rattle.rule.specs.Rule.{classHead, firstHead, head, placed, body, fromUnknown4, fromUnknown2, fields, rule}
-use Rattle.deck.specs.Deck.{header, deck, readAs}
 
 -- an answer is refused, if it is, for one of P's faults
 unfoldable pub For : {A : Type 0} → (Fault → Type 0) → Answer A → Type 0
@@ -177,7 +176,7 @@ module _ (P : Fault → Type 0) where
     gives-data (Kind.Size r) = gives-via _ _ _ _ (gives-then oneZero _ gives-one-zero (gives-pair (number 4) _ (gives-number 4) (λ x. gives-number 4)))
     gives-data (Kind.Dates r) = gives-via _ _ _ _ (gives-then oneZero _ gives-one-zero (gives-pair limit _ gives-limit (λ x. gives-limit)))
 
-    -- ---- what a deck gives
+    -- ---- what a rule gives
     module _ (unknown : P Fault.Unknown) (foreign : P Fault.Foreign) (size : P Fault.Size) where
       gives-by : (r : Row) → Gives P (dataBy r)
       gives-by (Row.Is k) = gives-data k
@@ -208,14 +207,3 @@ module _ (P : Fault → Type 0) where
       gives-rule p i =
           let n = gives-number 4 in
           gives-via _ _ _ _ (gives-pair _ _ n (λ a. gives-pair _ _ gives-string (λ b. gives-pair _ _ gives-flag (λ c. gives-pair _ _ n (λ d. gives-pair _ _ n (λ e. gives-pair _ _ n (λ f. gives-pair _ _ n (λ g. gives-sized _ (gives-body p i)))))))))
-
-      pub for-deck : (p : Product) (s : List ℕ) → P Fault.Mark → P Fault.Version → P Fault.Long → P Fault.Over → For P (readAs p s)
-      unfolding readAs For pick Gives deck header bytes
-      for-deck p s mark version long over = go (leb (length s) 60000)
-        where
-          deep : Gives P (deck p)
-          deep = gives-counted _ _ _ (gives-then _ _ (gives-fixed _ _ Fault.Mark mark) (gives-then _ _ (gives-fixed 2 1 Fault.Version version) (gives-count 2 0 256))) (gives-each (rule p) (gives-rule p) 0)
-
-          go : (b : Bool) → For P (pick b (whole (length s) (deck p .read s)) (refused Fault.Long 60000))
-          go true = for-whole (length s) (deck p .read s) over (deep s)
-          go false = long

@@ -3,5 +3,4 @@ pub mod Data
 pub mod Refused
 pub mod Places
 pub mod Faults
-pub mod Numbers
 pub mod Listed

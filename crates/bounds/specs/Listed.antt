@@ -20,6 +20,7 @@ use Rattle.format.specs.Rows.{total}
 use Rattle.kind.specs.declared.Product.{Product}
 use Rattle.kind.specs.declared.Edition.{Edition}
 use Rattle.kind.specs.declared.Edition.the-variants as Edition
+use Rattle.kind.specs.declared.Kind.{Kind}
 use Rattle.kind.specs.declared.Row.{Row}
 use Rattle.kind.specs.declared.Row.the-variants as Row
 use Rattle.kind.specs.Kinds.{editionOf, rowOf}
@@ -42,10 +43,9 @@ use Rattle.view.specs.Asked.{asked, askedBy, askedOf, askedFirst}
 use Rattle.view.specs.View.{nameAt, nameView, viewSays}
 use Rattle.view.specs.Word.{wordAt, elementWord, ruleWord, wordView}
 use Rattle.view.specs.Fixed.{fixedAt, fixedFields}
-use Rattle.bounds.specs.Data.{most, given-end, whole-end}
+use Rattle.bounds.specs.Data.{most, row-refuses, given-end, whole-end}
 use Rattle.bounds.specs.Faults.{For, Gives, for-refused, for-mapped, for-shift, for-whole, gives-each, gives-count, gives-data, gives-rule}
 use Rattle.bounds.specs.Refused.{Only, Own, RefusedAs, OfGiven, only-edited}
-use Rattle.bounds.specs.Numbers.{row-refuses}
 use Rattle.bounds.specs.Places.{Lent}
 
 -- the table's places
@@ -94,13 +94,15 @@ Listed Fault.Full q = q ≡ 0
 -- 22, no rule, or last element is no word list
 Listed Fault.Last q = q ≡ 0
 
--- the numbers that a call may give: from one to another, at places up to a third
+-- the numbers that a call may give: from one to another at places up to a third, or one at one place
 pub data Numbers : Type 0 where
   numbers : ℕ → ℕ → ℕ → Numbers
+  exactly : ℕ → ℕ → Numbers
 
 unfoldable pub among : List Numbers → ℕ → ℕ → Bool
 among [] n q = false
 among (numbers low high last ∷ rows) n q = (within low high n && leb q last) || among rows n q
+among (exactly m o ∷ rows) n q = (eqb n m && eqb q o) || among rows n q
 
 -- an answer, if it is a refusal, is one of the table: "34 to 45: 2 to 13 plus 32, the same fault", at a place "there"
 abbrev pub Lists : List Numbers → Outcome → Type 0
@@ -120,11 +122,15 @@ among-first low high last rows n q f g h = rw (within-is-true low high n f g, le
 
 pub among-later : (row : Numbers) (rows : List Numbers) (n q : ℕ) → among rows n q ≡ true → among (row ∷ rows) n q ≡ true
 unfolding among
-among-later (numbers low high last) rows n q e = go (within low high n && leb q last)
+among-later row rows n q e = by row
   where
     go : (b : Bool) → (b || among rows n q) ≡ true
     go true = refl
     go false = e
+
+    by : (row : Numbers) → among (row ∷ rows) n q ≡ true
+    by (numbers low high last) = go (within low high n && leb q last)
+    by (exactly m o) = go (eqb n m && eqb q o)
 
 -- what a deck or data are refused for: 2 to 13, at a place of the table where it is not past 60,000
 abbrev Told : Fault → ℕ → Type 0
@@ -238,12 +244,16 @@ check-listed edition s = by (editionOf edition)
     by Edition.Unknown = edition-listed []
 
 -- and so does a pass over the deck
-pub pass-listed : (edition : ℕ) (s : List ℕ) {c : Fault} {q : ℕ} → scanned (readDeck edition s) ≡ Scan.No c q → Lists checkNumbers (Outcome.No c q)
-pass-listed edition s {c} {q} e = go (readDeck edition s) e (check-listed edition s)
+abbrev pub passSays : Scan → Outcome
+passSays (Scan.Is n e) = Outcome.Done n
+passSays (Scan.No c q) = Outcome.No c q
+
+pub pass-listed : (edition : ℕ) (s : List ℕ) → Lists checkNumbers (passSays (scanned (readDeck edition s)))
+pass-listed edition s = go (readDeck edition s) (check-listed edition s)
   where
-    go : (a : Answer (List Rule)) → scanned a ≡ Scan.No c q → Lists checkNumbers (answered a) → Lists checkNumbers (Outcome.No c q)
-    go (got rs n) z f = absurd (let u : _≡_ {A = ℕ} 0 1 = cc in omega arith)
-    go (refused d o) z f = let ec : c ≡ d = cc in let eq : q ≡ o = cc in rw (ec, eq) f
+    go : (a : Answer (List Rule)) → Lists checkNumbers (answered a) → Lists checkNumbers (passSays (scanned a))
+    go (got rs n) f = tt
+    go (refused c q) f = f
 
 -- "14 last, rule table first"
 abbrev pub readNumbers : List Numbers
@@ -311,89 +321,116 @@ word-listed edition k e w s = asked-listed View.No (ruleWord k e w) 2 (Viewed 2)
     element [] at = absent-listed 2 1 (omega arith) (omega arith)
     element (x ∷ xs) at = worded (drop w (wordsOf (x .1))) _
 
-abbrev FieldsListed : Fielded → Type 0
-FieldsListed (Fielded.Is f) = Unit {0}
-FieldsListed (Fielded.No c q) = Lists (viewNumbers 0) (Outcome.No c q)
+abbrev pub fieldsSay : Fielded → Outcome
+fieldsSay (Fielded.Is f) = Outcome.Done 0
+fieldsSay (Fielded.No c q) = Outcome.No c q
 
-pub fixed-listed : (edition k : ℕ) (s : List ℕ) {c : Fault} {q : ℕ} → fixedFields edition k s ≡ Fielded.No c q → Lists (viewNumbers 0) (Outcome.No c q)
+pub fixed-listed : (edition k : ℕ) (s : List ℕ) → Lists (viewNumbers 0) (fieldsSay (fixedFields edition k s))
 unfolding fixedFields
-fixed-listed edition k s e = let f = asked-listed Fielded.No (λ p. fixedAt) 0 FieldsListed (λ c q h. h) (λ p at r. tt) edition k s in rw e at f
+fixed-listed edition k s = asked-listed Fielded.No (λ p. fixedAt) 0 (λ v. Lists (viewNumbers 0) (fieldsSay v)) (λ c q f. f) (λ p at r. tt) edition k s
 
 -- ---- what is given, and the edits
 
--- data of an element, and its identifier: 41 and 42 at 0
-pub element-faulty : (p : Product) (id : ℕ) (s : List ℕ) → Bytes s → RefusedAs Faulty (given p id s)
-unfolding given Gives within endOf
-element-faulty p id s b c q e = go (rowOf p id) refl e
-  where
-    small : q ≤ most
-    small = rw e at (given-end p id s b)
+-- "41 and 42 have place 0; the data may give 35, 38, 39, 40, 43, 45"
+abbrev pub elementNumbers : List Numbers
+elementNumbers = numbers 35 35 most ∷ numbers 38 40 most ∷ numbers 41 42 0 ∷ numbers 43 43 most ∷ numbers 45 45 most ∷ []
 
-    go : (r : Row) → rowOf p id ≡ r → givenBy r id s ≡ refused c q → Faulty c q
-    go (Row.Is k) h z =
-        let d = gives-data Always (λ q. (refl, λ h. h)) (λ q. (refl, λ h. h)) (λ q. (refl, λ h. h)) (λ q. (refl, λ h. h)) (λ q. (refl, λ h. h)) k s in
-        let f = for-refused Always (for-mapped Always (withData id) (whole (length s) (dataOf k .read s)) (for-whole Always (length s) (dataOf k .read s) (λ q. (refl, λ h. h)) d)) z q in
-        let l : q ≤ 60000 = omega (arith, small) in
-        (f .0, (l, f .1 l))
-    go (Row.No d o) h z = row-refuses Faulty (refl, (omega arith, omega arith)) (refl, (omega arith, omega arith)) p id (h ∙ (let w : Row.No d o ≡ Row.No c q = cc in w))
+abbrev pub ElementListed : Fault → ℕ → Type 0
+ElementListed c q = Lists elementNumbers (Outcome.Given c q)
 
--- "1, 15, 2 to 13 on its deck, 34 to 45 on a second deck, 16 (k first), 22, 21, 17, 34 to 45 on an element, 18, 19, 20"
-abbrev pub editNumbers : List Numbers
-editNumbers = numbers 1 13 60000 ∷ numbers 15 15 0 ∷ numbers 16 16 1 ∷ numbers 17 22 0 ∷ numbers 34 45 60000 ∷ []
+abbrev Near : Fault → Type 0
+Near c = (q : ℕ) → q ≤ most → ElementListed c q
 
-given-listed : (c : Fault) (q : ℕ) → Faulty c q → Lists editNumbers (Outcome.Given c q)
-given-listed c q f =
-    let w = within-is 2 13 (numberOf c) (f .0) in
-    let n = numberOf c + 32 in
-    (among-later _ _ n q (among-later _ _ n q (among-later _ _ n q (among-later _ _ n q (among-first 34 45 60000 [] n q (omega arith) (omega arith) (f .1 .0))))), f .1 .1)
-
-abbrev OwnListed : Fault → ℕ → Type 0
-OwnListed c q = Lists editNumbers (Outcome.No c q)
-
-abbrev GivenListed : Fault → ℕ → Type 0
-GivenListed c q = Lists editNumbers (Outcome.Given c q)
-
-own-listed : Own OwnListed
+data-listed : (k : Kind) → Gives Near (dataOf k)
 unfolding among within
-own-listed = record { absent = (refl, omega arith); copied = (refl, omega arith); text = (refl, refl); full = (refl, refl); last = (refl, refl) }
+data-listed k = gives-data Near (λ q h. (rw (le-leb q most h), omega arith)) (λ q h. (rw (le-leb q most h), omega arith)) (λ q h. (rw (le-leb q most h), omega arith)) (λ q h. (rw (le-leb q most h), omega arith)) (λ q h. (rw (le-leb q most h), omega arith)) k
 
-lent-listed : (p : Product) (e : Edit) → Lent e → OfGiven GivenListed p e
-unfolding Lent
-lent-listed p (switch k on) h = tt
-lent-listed p (rename k name) h = tt
-lent-listed p (remove k) h = tt
-lent-listed p (insert k second j) h = λ c q e. given-listed c q (deck-faulty p second c q e)
-lent-listed p (addRule name f id s) h = λ c q e. given-listed c q (element-faulty p id s h c q e)
-lent-listed p (addElement id s) h = λ c q e. given-listed c q (element-faulty p id s h c q e)
-lent-listed p (addWord word) h = tt
-
-room-listed : (cap : ℕ) (x : Plan) → Only OwnListed GivenListed x → Lists editNumbers (says (inRoom cap x))
-unfolding room says pick among within
-room-listed cap (become rs) f = few (leb (length rs) 256) (leb (length (written rs)) 60000) (leb (length (written rs)) cap)
+pub element-listed : (p : Product) (id : ℕ) (s : List ℕ) → Bytes s → RefusedAs ElementListed (given p id s)
+unfolding given Gives among within endOf
+element-listed p id s b c q e = go (rowOf p id) refl e
   where
-    few : (a b c : Bool) → Lists editNumbers (says (pick a (pick b (pick c (become rs) (refuse Fault.Room 0)) (refuse Fault.Large 0)) (refuse Fault.Rules 0)))
-    few true true true = tt
-    few true true false = (refl, refl)
-    few true false c = (refl, refl)
-    few false b c = (refl, refl)
-room-listed cap (refuse c q) f = f
-room-listed cap (refuseGiven c q) f = f
+    go : (r : Row) → rowOf p id ≡ r → givenBy r id s ≡ refused c q → ElementListed c q
+    go (Row.Is k) h z =
+        let n : Near c = for-refused Near (for-mapped Near (withData id) (whole (length s) (dataOf k .read s)) (for-whole Near (length s) (dataOf k .read s) (λ q h. (rw (le-leb q most h), omega arith)) (data-listed k s))) z in
+        n q (rw e at (given-end p id s b))
+    go (Row.No d o) h z = row-refuses ElementListed (refl, omega arith) (refl, omega arith) p id (h ∙ (let w : Row.No d o ≡ Row.No c q = cc in w))
 
-plan-listed : (edition n : ℕ) (d : List ℕ) (e : Edit) → Lent e → Lists editNumbers (says (planned edition n d e))
-unfolding planned says pick among within
+-- "16 (k first), 22, 21, 17", and what is wrong with what an edit is given
+abbrev pub ownNumbers : Edit → List Numbers
+ownNumbers (switch k on) = exactly 16 0 ∷ []
+ownNumbers (rename k name) = exactly 16 0 ∷ exactly 17 0 ∷ []
+ownNumbers (remove k) = exactly 16 0 ∷ []
+ownNumbers (insert k second j) = numbers 34 45 60000 ∷ numbers 16 16 1 ∷ []
+ownNumbers (addRule name f id s) = exactly 17 0 ∷ elementNumbers
+ownNumbers (addElement id s) = numbers 21 22 0 ∷ elementNumbers
+ownNumbers (addWord word) = numbers 21 22 0 ∷ exactly 17 0 ∷ []
+
+-- "An edit: 1, 15, 2 to 13 on its deck", its own, "18, 19, 20"
+abbrev laterNumbers : Edit → List Numbers
+laterNumbers e = exactly 15 0 ∷ numbers 18 20 0 ∷ ownNumbers e
+
+abbrev pub editNumbers : Edit → List Numbers
+editNumbers e = numbers 1 13 60000 ∷ exactly 15 0 ∷ numbers 18 20 0 ∷ ownNumbers e
+
+abbrev OwnListed : Edit → Fault → ℕ → Type 0
+OwnListed e c q = Lists (editNumbers e) (Outcome.No c q)
+
+abbrev GivenListed : Edit → Fault → ℕ → Type 0
+GivenListed e c q = Lists (editNumbers e) (Outcome.Given c q)
+
+own-listed : (e : Edit) → Own (OwnListed e) e
+unfolding among within
+own-listed (switch k on) = (refl, omega arith)
+own-listed (rename k name) = ((refl, omega arith), (refl, refl))
+own-listed (remove k) = (refl, omega arith)
+own-listed (insert k second j) = ((refl, omega arith), (refl, omega arith))
+own-listed (addRule name f id s) = (refl, refl)
+own-listed (addElement id s) = ((refl, refl), (refl, refl))
+own-listed (addWord word) = ((refl, refl), ((refl, refl), (refl, refl)))
+
+-- what is among its own numbers is among an edit's
+later : (e : Edit) (n q : ℕ) → among (ownNumbers e) n q ≡ true → among (editNumbers e) n q ≡ true
+later e n q f = among-later (numbers 1 13 60000) (laterNumbers e) n q (among-later (exactly 15 0) (numbers 18 20 0 ∷ ownNumbers e) n q (among-later (numbers 18 20 0) (ownNumbers e) n q f))
+
+given-listed : (p : Product) (e : Edit) → Lent e → OfGiven (GivenListed e) p e
+unfolding Lent
+given-listed p (switch k on) h = tt
+given-listed p (rename k name) h = tt
+given-listed p (remove k) h = tt
+given-listed p (insert k second j) h = λ c q e.
+    let f = deck-faulty p second c q e in
+    let w = within-is 2 13 (numberOf c) (f .0) in
+    (later (insert k second j) (numberOf c + 32) q (among-first 34 45 60000 (numbers 16 16 1 ∷ []) (numberOf c + 32) q (omega arith) (omega arith) (f .1 .0)), f .1 .1)
+given-listed p (addRule name g id s) h = λ c q e. let f = element-listed p id s h c q e in (later (addRule name g id s) (numberOf c + 32) q (among-later (exactly 17 0) elementNumbers (numberOf c + 32) q (f .0)), f .1)
+given-listed p (addElement id s) h = λ c q e. let f = element-listed p id s h c q e in (later (addElement id s) (numberOf c + 32) q (among-later (numbers 21 22 0) elementNumbers (numberOf c + 32) q (f .0)), f .1)
+given-listed p (addWord word) h = tt
+
+plan-listed : (edition n : ℕ) (d : List ℕ) (e : Edit) → Lent e → Lists (editNumbers e) (says (planned edition n d e))
+unfolding planned room says pick among within
 plan-listed edition n d e h = by (editionOf edition)
   where
-    read : (p : Product) (a : Answer (List Rule)) → readAs p (take n d) ≡ a → Lists editNumbers (says (plan p (length d) e a))
-    read p (got rs m) f = room-listed (length d) (edited p e rs) (only-edited OwnListed GivenListed own-listed p e rs (lent-listed p e h))
-    read p (refused c q) f = faulty-listed (numbers 15 15 0 ∷ numbers 16 16 1 ∷ numbers 17 22 0 ∷ numbers 34 45 60000 ∷ []) c q (deck-faulty p (take n d) c q f)
+    room-listed : (x : Plan) → Only (OwnListed e) (GivenListed e) x → Lists (editNumbers e) (says (inRoom (length d) x))
+    room-listed (become rs) f = few (leb (length rs) 256) (leb (length (written rs)) 60000) (leb (length (written rs)) (length d))
+      where
+        few : (a b c : Bool) → Lists (editNumbers e) (says (pick a (pick b (pick c (become rs) (refuse Fault.Room 0)) (refuse Fault.Large 0)) (refuse Fault.Rules 0)))
+        few true true true = tt
+        few true true false = (refl, refl)
+        few true false c = (refl, refl)
+        few false b c = (refl, refl)
+    room-listed (refuse c q) f = f
+    room-listed (refuseGiven c q) f = f
 
-    stated : (p : Product) (t : Bool) → Lists editNumbers (says (pick t (plan p (length d) e (readAs p (take n d))) (refuse Fault.Stated 0)))
+    read : (p : Product) (a : Answer (List Rule)) → readAs p (take n d) ≡ a → Lists (editNumbers e) (says (plan p (length d) e a))
+    read p (got rs m) f = room-listed (edited p e rs) (only-edited (OwnListed e) (GivenListed e) p e rs (own-listed e) (given-listed p e h))
+    read p (refused c q) f = faulty-listed (laterNumbers e) c q (deck-faulty p (take n d) c q f)
+
+    stated : (p : Product) (t : Bool) → Lists (editNumbers e) (says (pick t (plan p (length d) e (readAs p (take n d))) (refuse Fault.Stated 0)))
     stated p true = read p (readAs p (take n d)) refl
     stated p false = (refl, refl)
 
-    by : (o : Edition) → Lists editNumbers (says (planBy o n d e))
+    by : (o : Edition) → Lists (editNumbers e) (says (planBy o n d e))
     by (Edition.Of p) = stated p (leb n (length d))
     by Edition.Unknown = (refl, refl)
 
-pub edit-listed : (edition n : ℕ) (e : Edit) (d : List ℕ) {r : Outcome} {x : List ℕ} → Lent e → Edits edition n e d r x → Lists editNumbers r
+pub edit-listed : (edition n : ℕ) (e : Edit) (d : List ℕ) {r : Outcome} {x : List ℕ} → Lent e → Edits edition n e d r x → Lists (editNumbers e) r
 edit-listed edition n e d h f = rw (f .0) (plan-listed edition n d e h)

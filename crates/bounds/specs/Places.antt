@@ -52,8 +52,14 @@ read-small edition p s e b = rw e at (place-small edition s b)
 abbrev Small : Fault → ℕ → Type 0
 Small c q = q ≤ 60000
 
-small-own : Own Small
-small-own = record { absent = omega arith; copied = omega arith; text = omega arith; full = omega arith; last = omega arith }
+small-own : (e : Edit) → Own Small e
+small-own (switch k on) = omega arith
+small-own (rename k name) = (omega arith, omega arith)
+small-own (remove k) = omega arith
+small-own (insert k second j) = (omega arith, omega arith)
+small-own (addRule name f id s) = omega arith
+small-own (addElement id s) = (omega arith, omega arith)
+small-own (addWord word) = (omega arith, (omega arith, omega arith))
 
 module _ (edition : ℕ) (p : Product) (ed : editionOf edition ≡ Edition.Of p) where
   element-small : (id : ℕ) (s : List ℕ) → Bytes s → RefusedAs Small (given p id s)
@@ -87,7 +93,7 @@ unfolding planned says pick
 plan-small edition n d e b h = by (editionOf edition) refl
   where
     read : (p : Product) (a : Answer (List Rule)) → editionOf edition ≡ Edition.Of p → placeOf (answered a) ≤ 60000 → placeOf (says (plan p (length d) e a)) ≤ 60000
-    read p (got rs m) f g = room-small (length d) (edited p e rs) (only-edited Small Small small-own p e rs (given-small edition p f e h))
+    read p (got rs m) f g = room-small (length d) (edited p e rs) (only-edited Small Small p e rs (small-own e) (given-small edition p f e h))
     read p (refused c q) f g = g
 
     stated : (p : Product) (t : Bool) → editionOf edition ≡ Edition.Of p → placeOf (says (pick t (plan p (length d) e (readAs p (take n d))) (refuse Fault.Stated 0))) ≤ 60000
