@@ -89,7 +89,7 @@ offered-place p (Row.Is k) h = go (inProduct p k)
     go true = refl
     go false = refl
 
-pub row-zero : (p : Product) (id : ℕ) → rowPlace (rowOf p id) ≡ 0
+row-zero : (p : Product) (id : ℕ) → rowPlace (rowOf p id) ≡ 0
 unfolding rowOf
 row-zero p id = offered-place p (rowIn kinds id) (row-place kinds id)
 

@@ -4,3 +4,5 @@ pub mod Refused
 pub mod Places
 pub mod Faults
 pub mod Listed
+pub mod Faulty
+pub mod Calls
