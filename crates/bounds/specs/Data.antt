@@ -1,7 +1,7 @@
 -- How far the data of an element go: at most 33,092 bytes, those of a list of 64 words of 255 units.
 use Prim.Native.Nat.{ℕ, _≤_}
 use native.Mathlib.Omega.{arith}
-use mathlib.Core.Path.{_≡_, refl}
+use mathlib.Core.Path.{_≡_, refl, _∙_}
 use mathlib.Core.Bool.{Bool, true, false}
 use mathlib.Core.List.{List, [], _∷_}
 use lib.Dec.{eqb}
@@ -18,7 +18,7 @@ use Rattle.kind.specs.declared.Kind.{Kind}
 use Rattle.kind.specs.declared.Kind.the-variants as Kind
 use Rattle.kind.specs.declared.Row.{Row}
 use Rattle.kind.specs.declared.Row.the-variants as Row
-use Rattle.kind.specs.Kinds.{kinds, has, rowIn, inProduct, offered, rowOf, rowPlace}
+use Rattle.kind.specs.Kinds.{kinds, has, rowIn, inProduct, offered, rowOf, rowPlace, lacking, foreign}
 use Rattle.element.specs.Data.{oneZero, markerData, simpleData, wordCount, wordData, sizeData, limit, dateData, dataOf}
 use Rattle.plan.specs.Given.{given, givenBy, withData}
 use Rattle.bounds.specs.Bounded.{Bounded, bounded-number, bounded-nothing, bounded-pick, bounded-judged, bounded-via, bounded-start, bounded-pair, bounded-then, bounded-fixed, bounded-flag, bounded-count, bounded-listed}
@@ -89,11 +89,20 @@ offered-place p (Row.Is k) h = go (inProduct p k)
     go true = refl
     go false = refl
 
-pub row-zero : (p : Product) (id : ℕ) → rowPlace (rowOf p id) ≡ 0
+row-zero : (p : Product) (id : ℕ) → rowPlace (rowOf p id) ≡ 0
 unfolding rowOf
 row-zero p id = offered-place p (rowIn kinds id) (row-place kinds id)
 
-whole-end : {A : Type 0} (n : ℕ) (a : Answer A) → endOf (whole n a) ≤ endOf a
+-- what holds of 41 and of 42 at 0 holds of every identifier that is refused
+pub row-refuses : (P : Fault → ℕ → Type 0) → P Fault.Unknown 0 → P Fault.Foreign 0 → (p : Product) (id : ℕ) {c : Fault} {q : ℕ} → rowOf p id ≡ Row.No c q → P c q
+unfolding rowOf offered
+row-refuses P u f p id {c} {q} e = let z : q ≡ 0 = rw e at (row-zero p id) in rw z (go (rowIn kinds id) refl e)
+  where
+    go : (r : Row) → rowIn kinds id ≡ r → offered p r ≡ Row.No c q → P c 0
+    go (Row.Is k) h i = rw (foreign p k i) f
+    go (Row.No d o) h i = rw (lacking kinds id (h ∙ i)) u
+
+pub whole-end : {A : Type 0} (n : ℕ) (a : Answer A) → endOf (whole n a) ≤ endOf a
 unfolding whole endOf pick
 whole-end n (got x m) = go (eqb m n)
   where

@@ -24,7 +24,6 @@ use Rattle.kind.specs.Kinds.{kinds, rowIn}
 use Rattle.element.specs.Data.{oneZero, markerData, simpleData, wordData, sizeData, limit, dateData, dataOf}
 use Rattle.element.specs.Element.{dataBy, identifier, element}
 use Rattle.rule.specs.Rule.{classHead, firstHead, head, placed, body, fromUnknown4, fromUnknown2, fields, rule}
-use Rattle.deck.specs.Deck.{header, deck, readAs}
 
 -- an answer is refused, if it is, for one of P's faults
 unfoldable pub For : {A : Type 0} → (Fault → Type 0) → Answer A → Type 0
@@ -45,7 +44,7 @@ module _ (P : Fault → Type 0) where
   for-mapped f (got x n) h = tt
   for-mapped f (refused c o) h = h
 
-  for-shift : {A : Type 0} (k : ℕ) (q : Answer A) → For P q → For P (shift k q)
+  pub for-shift : {A : Type 0} (k : ℕ) (q : Answer A) → For P q → For P (shift k q)
   unfolding For shift
   for-shift k (got x n) h = tt
   for-shift k (refused c o) h = h
@@ -111,7 +110,7 @@ module _ (P : Fault → Type 0) where
   for-each a f i zero s = tt
   for-each a f i (suc k) s = for-then (a i .read s) _ (f i s) (λ x n. for-mapped _ (eachRead a (i + 1) k (drop n s)) (for-each a f (i + 1) k (drop n s)))
 
-  gives-each : {A : Type 0} (a : ℕ → Format A) → ((i : ℕ) → Gives P (a i)) → (i k : ℕ) → Gives P (each a i k)
+  pub gives-each : {A : Type 0} (a : ℕ → Format A) → ((i : ℕ) → Gives P (a i)) → (i k : ℕ) → Gives P (each a i k)
   unfolding Gives each
   gives-each a f i k s = for-each a f i k s
 
@@ -145,7 +144,7 @@ module _ (P : Fault → Type 0) where
     unfolding fixed
     gives-fixed k v c h = gives-via _ _ _ _ (gives-judged _ c (number k) h (gives-number k))
 
-    gives-count : (k low high : ℕ) → Gives P (count k low high)
+    pub gives-count : (k low high : ℕ) → Gives P (count k low high)
     unfolding count
     gives-count k low high = gives-judged _ Fault.Count (number k) many (gives-number k)
 
@@ -177,7 +176,7 @@ module _ (P : Fault → Type 0) where
     gives-data (Kind.Size r) = gives-via _ _ _ _ (gives-then oneZero _ gives-one-zero (gives-pair (number 4) _ (gives-number 4) (λ x. gives-number 4)))
     gives-data (Kind.Dates r) = gives-via _ _ _ _ (gives-then oneZero _ gives-one-zero (gives-pair limit _ gives-limit (λ x. gives-limit)))
 
-    -- ---- what a deck gives
+    -- ---- what a rule gives
     module _ (unknown : P Fault.Unknown) (foreign : P Fault.Foreign) (size : P Fault.Size) where
       gives-by : (r : Row) → Gives P (dataBy r)
       gives-by (Row.Is k) = gives-data k
@@ -203,19 +202,8 @@ module _ (P : Fault → Type 0) where
       unfolding sized
       gives-sized a f = gives-via _ _ _ _ (gives-judged _ Fault.Size _ size (gives-pair (number 4) _ (gives-number 4) (λ n. gives-measured a f)))
 
-      gives-rule : (p : Product) (i : ℕ) → Gives P (rule p i)
+      pub gives-rule : (p : Product) (i : ℕ) → Gives P (rule p i)
       unfolding rule fields fromUnknown2 fromUnknown4 seq
       gives-rule p i =
           let n = gives-number 4 in
           gives-via _ _ _ _ (gives-pair _ _ n (λ a. gives-pair _ _ gives-string (λ b. gives-pair _ _ gives-flag (λ c. gives-pair _ _ n (λ d. gives-pair _ _ n (λ e. gives-pair _ _ n (λ f. gives-pair _ _ n (λ g. gives-sized _ (gives-body p i)))))))))
-
-      pub for-deck : (p : Product) (s : List ℕ) → P Fault.Mark → P Fault.Version → P Fault.Long → P Fault.Over → For P (readAs p s)
-      unfolding readAs For pick Gives deck header bytes
-      for-deck p s mark version long over = go (leb (length s) 60000)
-        where
-          deep : Gives P (deck p)
-          deep = gives-counted _ _ _ (gives-then _ _ (gives-fixed _ _ Fault.Mark mark) (gives-then _ _ (gives-fixed 2 1 Fault.Version version) (gives-count 2 0 256))) (gives-each (rule p) (gives-rule p) 0)
-
-          go : (b : Bool) → For P (pick b (whole (length s) (deck p .read s)) (refused Fault.Long 60000))
-          go true = for-whole (length s) (deck p .read s) over (deep s)
-          go false = long

@@ -3,4 +3,6 @@ pub mod Data
 pub mod Refused
 pub mod Places
 pub mod Faults
-pub mod Numbers
+pub mod Listed
+pub mod Faulty
+pub mod Calls

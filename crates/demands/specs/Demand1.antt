@@ -1,41 +1,52 @@
 -- Demand 1: each call takes all byte strings, lengths and numbers, and does its work or refuses by a number and a place from document 01's
 -- table; a refused call leaves every lent buffer and table exactly as found. That each call ends, and takes all input, is what a proved
 -- function without a `requires` is; what follows is said of the promises.
-use Prim.Native.Nat.{ℕ, _+_, _≤_, _<_}
+use Prim.Native.Nat.{ℕ, _+_, _<_}
 use native.Mathlib.Omega.{arith}
-use mathlib.Core.Path.{_≡_, refl, sym, ap, _∙_}
+use mathlib.Core.Path.{_≡_, refl, ap, _∙_}
 use mathlib.Core.Bool.{Bool, true, false}
-use mathlib.Core.List.{List}
+use mathlib.Core.List.{List, [], _∷_}
 use lib.Dec.{leb}
-use lib.ListN.{length, take}
-use borrow.Author.Needs.{needs}
+use lib.ListN.{length}
 use Rattle.format.specs.declared.Fault.{Fault}
 use Rattle.format.specs.declared.Fault.the-variants as Fault
 use Rattle.format.specs.declared.Outcome.{Outcome}
 use Rattle.format.specs.declared.Outcome.the-variants as Outcome
 use Rattle.format.specs.Fault.{numberOf, codeOf}
-use Rattle.format.specs.Format.{Answer, got, refused, mapped, whole, pick, one, Format}
+use Rattle.format.specs.Format.{Answer, got, refused, mapped, whole, pick, one, Format, Bytes}
+use Rattle.format.specs.Number.{within}
 use Rattle.kind.specs.declared.Product.{Product}
 use Rattle.kind.specs.declared.Edition.{Edition}
 use Rattle.kind.specs.declared.Edition.the-variants as Edition
 use Rattle.kind.specs.declared.Kind.{Kind}
 use Rattle.kind.specs.declared.Row.{Row}
 use Rattle.kind.specs.declared.Row.the-variants as Row
-use Rattle.kind.specs.Kinds.{editionOf, rowOf}
+use Rattle.kind.specs.Kinds.{editionOf, rowOf, rowBy, kindOf}
+use Rattle.moment.specs.declared.Moment.{Moment}
+use Rattle.moment.specs.declared.Moment.the-variants as Moment
+use Rattle.moment.specs.Moment.{Says}
 use Rattle.element.specs.Data.{Data, dataOf}
 use Rattle.value.specs.declared.Value.{Value}
 use Rattle.value.specs.declared.Value.the-variants as Value
+use Rattle.value.specs.declared.Valued.{Valued}
 use Rattle.value.specs.declared.Valued.the-variants as Valued
 use Rattle.value.specs.Value.{fromData, fromKind, fromRow, fromEdition, valueOf}
 use Rattle.put.specs.Plan.{Fitted, holds, lacks, fromSpan, fromValue, isOf, fitted, write, deny, ifRoom, planData, planKind, planRow, planEdition, putting, putSays}
 use Rattle.rule.specs.Rule.{Rule}
-use Rattle.deck.specs.Deck.{readAs}
+use Rattle.deck.specs.Deck.{readAs, readDeck, answered, scanned}
 use Rattle.tables.specs.Tables.{tabled, readSays, rulesLeft, rulesAfter, elementsLeft, elementsAfter}
+use Rattle.view.specs.View.{viewSays, nameView}
+use Rattle.view.specs.Word.{wordView}
+use Rattle.view.specs.Fixed.{fixedFields}
 use Rattle.plan.specs.Edit.{Edit, Plan, become, refuse, refuseGiven, planned, says, leaves}
 use Rattle.plan.specs.Given.{given, givenBy, withData}
 use Rattle.plan.specs.Found.{Edits}
-use Rattle.bounds.specs.Refused.{Own, RefusedAs}
-use Rattle.bounds.specs.Numbers.{Ranged, ElementSays, element-says, element-ranged, row-refuses, GivenIn, given-says, own-says, given-ranged}
+use Rattle.start.specs.Start.{startSays}
+use Rattle.bounds.specs.Data.{row-refuses}
+use Rattle.bounds.specs.Places.{Lent}
+use Rattle.bounds.specs.Listed.{Numbers, numbers, exactly, among, among-later, Lists}
+use Rattle.bounds.specs.Faulty.{elementNumbers, element-listed}
+use Rattle.bounds.specs.Calls.{checkNumbers, check-listed, passSays, pass-listed, readNumbers, read-listed, viewNumbers, name-listed, word-listed, fieldsSay, fixed-listed, editNumbers, edit-listed}
 
 -- the answer and the buffer of an edit are functions of what it was called with: two outcomes that the promise allows coincide
 pub edits-coincide : (edition n : ℕ) (e : Edit) (d : List ℕ) {r q : Outcome} {x y : List ℕ} → Edits edition n e d r x → Edits edition n e d q y → (r ≡ q) × (x ≡ y)
@@ -65,75 +76,137 @@ read-as-found edition s rules elements = by (editionOf edition)
     by (Edition.Of p) h = left (readAs p s) (tabled (length rules) (length elements) (readAs p s)) h p
     by Edition.Unknown h = (refl, refl)
 
--- an edit refuses by 1, 15, 16, 17 to 22, at the places that `Own` lists, or as its deck is refused; what holds of each of these holds of every such refusal
-pub edit-own : (N : Fault → ℕ → Type 0) → Own N → (edition n : ℕ) (e : Edit) (d : List ℕ) {c : Fault} {q : ℕ} {x : List ℕ} → ((p : Product) → editionOf edition ≡ Edition.Of p → RefusedAs N (readAs p (take n d))) → Edits edition n e d (Outcome.No c q) x → N c q
-edit-own N o edition n e d w f = own-says N o edition n d e w (sym (f .0))
+-- ---- "refuses by a number and a place from document 01's table": by the numbers that the call may give, at the places that the table has for them
 
--- ---- "34 to 45: 2 to 13 plus 32: the same fault in the second deck or in given element data"
+-- the deck check, and a pass: 1 to 13
+pub check-refuses : (edition : ℕ) (s : List ℕ) → Lists checkNumbers (answered (readDeck edition s))
+check-refuses edition s = check-listed edition s
 
--- of an edit: of the second deck any of these; of an element only those that document 01 lists, and only where it is given one (`GivenSays`)
-pub edit-given : (edition n : ℕ) (e : Edit) (d : List ℕ) {c : Fault} {q : ℕ} {x : List ℕ} → Edits edition n e d (Outcome.Given c q) x
-    → ((34 ≤ codeOf (Outcome.Given c q)) × (codeOf (Outcome.Given c q) ≤ 45)) × GivenIn edition e c q
-unfolding Ranged
-edit-given edition n e d f = (given-ranged edition n d e (sym (f .0)), given-says edition n d e (sym (f .0)))
+pub pass-refuses : (edition : ℕ) (s : List ℕ) → Lists checkNumbers (passSays (scanned (readDeck edition s)))
+pass-refuses edition s = pass-listed edition s
 
--- of lone data: "then as for a given element"
-pub value-given : (edition id : ℕ) (s : List ℕ) {c : Fault} {q : ℕ} → valueOf edition id s ≡ Valued.Given c q
-    → ((34 ≤ codeOf (Outcome.Given c q)) × (codeOf (Outcome.Given c q) ≤ 45)) × ((p : Product) × ((editionOf edition ≡ Edition.Of p) × ElementSays (rowOf p id) c q))
-unfolding valueOf fromKind given mapped Ranged
-value-given edition id s {c} {q} = by (editionOf edition) refl
+-- a read: 1 to 14
+pub read-refuses : (edition : ℕ) (s rules elements : List ℕ) → Lists readNumbers (readSays (editionOf edition) (length rules) (length elements) s)
+read-refuses edition s rules elements = read-listed edition (length rules) (length elements) s
+
+-- views and fixed fields: 1 to 13, and 16, of a word at 0, 1 or 2
+pub name-refuses : (edition k : ℕ) (s : List ℕ) → Lists (viewNumbers 0) (viewSays (nameView edition k s))
+name-refuses edition k s = name-listed edition k s
+
+pub word-refuses : (edition k e w : ℕ) (s : List ℕ) → Lists (viewNumbers 2) (viewSays (wordView edition k e w s))
+word-refuses edition k e w s = word-listed edition k e w s
+
+pub fields-refuse : (edition k : ℕ) (s : List ℕ) → Lists (viewNumbers 0) (fieldsSay (fixedFields edition k s))
+fields-refuse edition k s = fixed-listed edition k s
+
+-- the seven edits: 1 to 13, 15, 18 to 20, and what each judges of its own and of what it is given
+pub edit-refuses : (edition n : ℕ) (e : Edit) (d : List ℕ) {r : Outcome} {x : List ℕ} → Lent e → Edits edition n e d r x → Lists (editNumbers e) r
+edit-refuses edition n e d h f = edit-listed edition n e d h f
+
+-- "it refuses only with 20"
+pub start-refuses : (cap : ℕ) → Lists (exactly 20 0 ∷ []) (startSays cap)
+unfolding pick among
+start-refuses cap = go (leb 7 cap)
   where
-    read : (k : Kind) (a : Answer Data) → fromData k id a ≡ Valued.Given c q → mapped (withData id) a ≡ refused c q
-    read k (got x n) z = absurd (let u : _≡_ {A = ℕ} 0 1 = cc in omega arith)
-    read k (refused d o) z = cc
+    go : (b : Bool) → Lists (exactly 20 0 ∷ []) (pick b (Outcome.Done 7) (Outcome.No Fault.Room 0))
+    go true = tt
+    go false = (refl, refl)
 
-    row : (r : Row) → fromRow r id s ≡ Valued.Given c q → givenBy r id s ≡ refused c q
-    row (Row.Is k) z = read k (whole (length s) (dataOf k .read s)) z
-    row (Row.No d o) z = cc
+-- "An identifier alone .. 1, 9 or 10 at 0"
+abbrev pub kindSays : Row → Outcome
+kindSays (Row.Is k) = Outcome.Done 0
+kindSays (Row.No c q) = Outcome.No c q
 
-    by : (o : Edition) → editionOf edition ≡ o → fromEdition o id s ≡ Valued.Given c q
-        → ((34 ≤ numberOf c + 32) × (numberOf c + 32 ≤ 45)) × ((p : Product) × ((editionOf edition ≡ Edition.Of p) × ElementSays (rowOf p id) c q))
-    by (Edition.Of p) e z = let w = element-says p id s c q (row (rowOf p id) z) in (element-ranged (rowOf p id) c q w, (p, (e, w)))
-    by Edition.Unknown e z = absurd (let u : _≡_ {A = ℕ} 0 1 = cc in omega arith)
+abbrev pub kindNumbers : List Numbers
+kindNumbers = exactly 1 0 ∷ exactly 9 0 ∷ exactly 10 0 ∷ []
 
--- of a value: what holds of 41, 42 and 40 at 0 and of 43 at 16 and at 32 holds of every such refusal
-module _ (P : Fault → ℕ → Type 0) (unknown : P Fault.Unknown 0) (foreign : P Fault.Foreign 0) (field : P Fault.Field 0) (after : P Fault.Date 16) (before : P Fault.Date 32) where
-  abbrev Lacks : Fitted → Type 0
-  Lacks (holds d) = Unit {0}
-  Lacks (lacks c q) = P c q
+pub kind-refuses : (edition id : ℕ) → Lists kindNumbers (kindSays (kindOf edition id))
+unfolding kindOf rowBy among
+kind-refuses edition id = by (editionOf edition)
+  where
+    row : (p : Product) (r : Row) → rowOf p id ≡ r → Lists kindNumbers (kindSays r)
+    row p (Row.Is k) e = tt
+    row p (Row.No c q) e = row-refuses (λ c q. Lists kindNumbers (Outcome.No c q)) (refl, omega arith) (refl, omega arith) p id e
 
-  lacks-pick : (b : Bool) (x y : Fitted) → Lacks x → Lacks y → Lacks (pick b x y)
-  unfolding pick
-  lacks-pick true x y f g = f
-  lacks-pick false x y f g = g
+    by : (o : Edition) → Lists kindNumbers (kindSays (rowBy o id))
+    by (Edition.Of p) = row p (rowOf p id) refl
+    by Edition.Unknown = (refl, refl)
 
-  lacks-value : (v : Value) → Lacks (fromValue v)
-  unfolding fromSpan
-  lacks-value Value.Marker = tt
-  lacks-value (Value.Simple n) = tt
-  lacks-value (Value.Words n) = field
-  lacks-value (Value.Size a b) = tt
-  lacks-value (Value.Dates v) = lacks-pick _ _ _ (lacks-pick _ _ _ tt before) after
+-- "a lone date answers 11 at 0"
+abbrev pub momentSays : Moment → Outcome
+momentSays (Moment.At c second) = Outcome.Done 0
+momentSays (Moment.No c q) = Outcome.No c q
 
-  pub put-given : (edition id : ℕ) (v : Value) (room : ℕ) {c : Fault} {q : ℕ} → putSays (putting edition id v room) ≡ Outcome.Given c q → P c q
-  unfolding putting planKind ifRoom putSays pick
-  put-given edition id v room {c} {q} = by (editionOf edition)
-    where
-      room-none : (b : Bool) (bs : List ℕ) → putSays (pick b (write bs) (deny (Outcome.No Fault.Room 0))) ≡ Outcome.Given c q → P c q
-      room-none true bs z = absurd (let u : _≡_ {A = ℕ} 0 1 = cc in omega arith)
-      room-none false bs z = absurd (let u : _≡_ {A = ℕ} 0 1 = cc in omega arith)
+pub moment-refuses : (bits : ℕ) (m : Moment) → Says bits m → Lists (exactly 11 0 ∷ []) (momentSays m)
+unfolding among
+moment-refuses bits (Moment.At c second) f = tt
+moment-refuses bits (Moment.No c q) f = rw (f .why, f .start) (refl, omega arith)
 
-      fit : (a : Format Data) (f : Fitted) → Lacks f → putSays (planData a room f) ≡ Outcome.Given c q → P c q
-      fit a (holds d) w z = room-none (leb (length (a .write d)) room) (a .write d) z
-      fit a (lacks d o) w z = let ec : c ≡ d = cc in let eq : q ≡ o = cc in rw (ec, eq) w
+-- "Turning lone element data into a value takes an edition and answers 1 first, then as for a given element"
+abbrev pub valueSays : Valued → Outcome
+valueSays (Valued.Is v) = Outcome.Done 0
+valueSays (Valued.No c q) = Outcome.No c q
+valueSays (Valued.Given c q) = Outcome.Given c q
 
-      row : (p : Product) (r : Row) → rowOf p id ≡ r → putSays (planRow r id v room) ≡ Outcome.Given c q → P c q
-      row p (Row.Is k) e z = fit (dataOf k) (fitted k id v) (lacks-pick (isOf k id v) _ _ (lacks-value v) field) z
-      row p (Row.No d o) e z = row-refuses P unknown foreign p id (e ∙ (let w : Row.No d o ≡ Row.No c q = cc in w))
+abbrev pub valueNumbers : List Numbers
+valueNumbers = exactly 1 0 ∷ elementNumbers
 
-      by : (o : Edition) → putSays (planEdition o id v room) ≡ Outcome.Given c q → P c q
-      by (Edition.Of p) z = row p (rowOf p id) refl z
-      by Edition.Unknown z = absurd (let u : _≡_ {A = ℕ} 0 1 = cc in omega arith)
+pub value-refuses : (edition id : ℕ) (s : List ℕ) → Bytes s → Lists valueNumbers (valueSays (valueOf edition id s))
+unfolding valueOf fromKind given mapped among
+value-refuses edition id s b = by (editionOf edition)
+  where
+    listed : (p : Product) (c : Fault) (q : ℕ) → given p id s ≡ refused c q → Lists valueNumbers (Outcome.Given c q)
+    listed p c q e = let f = element-listed p id s b c q e in (among-later (exactly 1 0) elementNumbers (numberOf c + 32) q (f .0), f .1)
 
-pub put-ranged : (edition id : ℕ) (v : Value) (room : ℕ) {c : Fault} {q : ℕ} → putSays (putting edition id v room) ≡ Outcome.Given c q → (34 ≤ codeOf (Outcome.Given c q)) × (codeOf (Outcome.Given c q) ≤ 45)
-put-ranged edition id v room e = put-given (λ c q. (34 ≤ numberOf c + 32) × (numberOf c + 32 ≤ 45)) (search needs) (search needs) (search needs) (search needs) (search needs) edition id v room e
+    read : (p : Product) (k : Kind) (a : Answer Data) → given p id s ≡ mapped (withData id) a → Lists valueNumbers (valueSays (fromData k id a))
+    read p k (got x n) e = tt
+    read p k (refused c q) e = listed p c q e
+
+    row : (p : Product) (r : Row) → given p id s ≡ givenBy r id s → Lists valueNumbers (valueSays (fromRow r id s))
+    row p (Row.Is k) e = read p k (whole (length s) (dataOf k .read s)) e
+    row p (Row.No c q) e = listed p c q e
+
+    by : (o : Edition) → Lists valueNumbers (valueSays (fromEdition o id s))
+    by (Edition.Of p) = row p (rowOf p id) refl
+    by Edition.Unknown = (refl, refl)
+
+-- "Turning a value into data .. 1, then 41 or 42, then 40 at 0 .., then 43 at 16 or 32, then 20"
+abbrev pub putNumbers : List Numbers
+putNumbers = exactly 1 0 ∷ numbers 40 42 0 ∷ exactly 43 16 ∷ exactly 43 32 ∷ exactly 20 0 ∷ []
+
+abbrev Lacks : Fitted → Type 0
+Lacks (holds d) = Unit {0}
+Lacks (lacks c q) = Lists putNumbers (Outcome.Given c q)
+
+lacks-pick : (b : Bool) (x y : Fitted) → Lacks x → Lacks y → Lacks (pick b x y)
+unfolding pick
+lacks-pick true x y f g = f
+lacks-pick false x y f g = g
+
+lacks-value : (v : Value) → Lacks (fromValue v)
+unfolding fromSpan among within
+lacks-value Value.Marker = tt
+lacks-value (Value.Simple n) = tt
+lacks-value (Value.Words n) = (refl, omega arith)
+lacks-value (Value.Size a b) = tt
+lacks-value (Value.Dates v) = lacks-pick _ _ _ (lacks-pick _ _ _ tt (refl, omega arith)) (refl, omega arith)
+
+pub put-refuses : (edition id : ℕ) (v : Value) (room : ℕ) → Lists putNumbers (putSays (putting edition id v room))
+unfolding putting planKind ifRoom putSays pick among within
+put-refuses edition id v room = by (editionOf edition)
+  where
+    roomy : (b : Bool) (bs : List ℕ) → Lists putNumbers (putSays (pick b (write bs) (deny (Outcome.No Fault.Room 0))))
+    roomy true bs = tt
+    roomy false bs = (refl, refl)
+
+    fit : (a : Format Data) (f : Fitted) → Lacks f → Lists putNumbers (putSays (planData a room f))
+    fit a (holds d) w = roomy (leb (length (a .write d)) room) (a .write d)
+    fit a (lacks c q) w = w
+
+    row : (p : Product) (r : Row) → rowOf p id ≡ r → Lists putNumbers (putSays (planRow r id v room))
+    row p (Row.Is k) e = fit (dataOf k) (fitted k id v) (lacks-pick (isOf k id v) _ _ (lacks-value v) (refl, omega arith))
+    row p (Row.No c q) e = row-refuses (λ c q. Lists putNumbers (Outcome.Given c q)) (refl, omega arith) (refl, omega arith) p id e
+
+    by : (o : Edition) → Lists putNumbers (putSays (planEdition o id v room))
+    by (Edition.Of p) = row p (rowOf p id) refl
+    by Edition.Unknown = (refl, refl)

@@ -1,0 +1,226 @@
+-- Which numbers each call may give, and that it gives no others: document 01, "Numbers a refusal gives".
+use Prim.Native.Nat.{ℕ, _+_, _*_, _≤_}
+use native.Mathlib.Omega.{arith}
+use mathlib.Core.Path.{_≡_, refl}
+use mathlib.Core.Bool.{Bool, true, false}
+use mathlib.Core.List.{List, [], _∷_}
+use lib.Dec.{leb}
+use lib.ListN.{length, take, drop}
+use Rattle.format.specs.declared.Fault.{Fault}
+use Rattle.format.specs.declared.Fault.the-variants as Fault
+use Rattle.format.specs.declared.Outcome.{Outcome}
+use Rattle.format.specs.declared.Outcome.the-variants as Outcome
+use Rattle.format.specs.Fault.{numberOf}
+use Rattle.format.specs.Format.{Answer, got, refused, pick}
+use Rattle.format.specs.Number.{within, within-is}
+use Rattle.format.specs.Rows.{total}
+use Rattle.kind.specs.declared.Product.{Product}
+use Rattle.kind.specs.declared.Edition.{Edition}
+use Rattle.kind.specs.declared.Edition.the-variants as Edition
+use Rattle.kind.specs.Kinds.{editionOf}
+use Rattle.element.specs.Data.{wordsOf}
+use Rattle.element.specs.Element.{Element}
+use Rattle.rule.specs.Rule.{Rule, elementsIn}
+use Rattle.deck.specs.declared.Scan.{Scan}
+use Rattle.deck.specs.declared.Scan.the-variants as Scan
+use Rattle.deck.specs.Deck.{readAs, readBy, readDeck, answered, scanned}
+use Rattle.deck.specs.Written.{written}
+use Rattle.plan.specs.Edit.{Edit, switch, rename, remove, insert, addRule, addElement, addWord, Plan, become, refuse, refuseGiven, edited, room, inRoom, plan, planBy, planned, says}
+use Rattle.plan.specs.Found.{Edits}
+use Rattle.tables.specs.Tables.{ruleWidth, elementWidth, inTables, tabled, readSays}
+use Rattle.view.specs.declared.View.{View}
+use Rattle.view.specs.declared.View.the-variants as View
+use Rattle.view.specs.declared.Fielded.{Fielded}
+use Rattle.view.specs.declared.Fielded.the-variants as Fielded
+use Rattle.view.specs.Asked.{asked, askedBy, askedOf, askedFirst}
+use Rattle.view.specs.View.{nameAt, nameView, viewSays}
+use Rattle.view.specs.Word.{wordAt, elementWord, ruleWord, wordView}
+use Rattle.view.specs.Fixed.{fixedAt, fixedFields}
+use Rattle.bounds.specs.Refused.{Only, Own, OfGiven, only-edited}
+use Rattle.bounds.specs.Places.{Lent}
+use Rattle.bounds.specs.Listed.{Numbers, among, Lists, among-first, among-later, numbers, exactly}
+use Rattle.bounds.specs.Faulty.{deck-faulty, edition-listed, faulty-listed, elementNumbers, element-listed}
+
+-- "The deck check is a read without tables, so without 14"
+abbrev pub checkNumbers : List Numbers
+checkNumbers = numbers 1 13 60000 ∷ []
+
+pub check-listed : (edition : ℕ) (s : List ℕ) → Lists checkNumbers (answered (readDeck edition s))
+unfolding readDeck readBy
+check-listed edition s = by (editionOf edition)
+  where
+    read : (p : Product) (a : Answer (List Rule)) → readAs p s ≡ a → Lists checkNumbers (answered a)
+    read p (got rs n) e = tt
+    read p (refused c q) e = faulty-listed [] c q (deck-faulty p s c q e)
+
+    by : (o : Edition) → Lists checkNumbers (answered (readBy o s))
+    by (Edition.Of p) = read p (readAs p s) refl
+    by Edition.Unknown = edition-listed []
+
+-- and so does a pass over the deck
+abbrev pub passSays : Scan → Outcome
+passSays (Scan.Is n e) = Outcome.Done n
+passSays (Scan.No c q) = Outcome.No c q
+
+pub pass-listed : (edition : ℕ) (s : List ℕ) → Lists checkNumbers (passSays (scanned (readDeck edition s)))
+pass-listed edition s = go (readDeck edition s) (check-listed edition s)
+  where
+    go : (a : Answer (List Rule)) → Lists checkNumbers (answered a) → Lists checkNumbers (passSays (scanned a))
+    go (got rs n) f = tt
+    go (refused c q) f = f
+
+-- "14 last, rule table first"
+abbrev pub readNumbers : List Numbers
+readNumbers = numbers 1 13 60000 ∷ numbers 14 14 1 ∷ []
+
+pub read-listed : (edition rules elements : ℕ) (s : List ℕ) → Lists readNumbers (readSays (editionOf edition) rules elements s)
+unfolding inTables pick among within
+read-listed edition rules elements s = by (editionOf edition)
+  where
+    read : (p : Product) (a : Answer (List Rule)) → readAs p s ≡ a → Lists readNumbers (tabled rules elements a)
+    read p (got rs n) e = few (leb (ruleWidth * length rs) rules) (leb (elementWidth * total elementsIn rs) elements)
+      where
+        few : (x y : Bool) → Lists readNumbers (pick x (pick y (Outcome.Done (length rs)) (Outcome.No Fault.Table 1)) (Outcome.No Fault.Table 0))
+        few true true = tt
+        few true false = (refl, omega arith)
+        few false y = (refl, omega arith)
+    read p (refused c q) e = faulty-listed (numbers 14 14 1 ∷ []) c q (deck-faulty p s c q e)
+
+    by : (o : Edition) → Lists readNumbers (readSays o rules elements s)
+    by (Edition.Of p) = read p (readAs p s) refl
+    by Edition.Unknown = edition-listed (numbers 14 14 1 ∷ [])
+
+-- "A view or fixed fields: the read's refusals without 14, then 16", up to a place
+abbrev pub viewNumbers : ℕ → List Numbers
+viewNumbers last = numbers 1 13 60000 ∷ numbers 16 16 last ∷ []
+
+absent-listed : (last q : ℕ) → q ≤ last → q ≤ 2 → Lists (viewNumbers last) (Outcome.No Fault.Absent q)
+absent-listed last q f g = (among-later (numbers 1 13 60000) (numbers 16 16 last ∷ []) 16 q (among-first 16 16 last [] 16 q (omega arith) (omega arith) f), g)
+
+-- Q says it of what is answered
+module _ {W : Type 0} (no : Fault → ℕ → W) (f : Product → ℕ → Rule → W) (last : ℕ) (Q : W → Type 0) (says-no : (c : Fault) (q : ℕ) → Lists (viewNumbers last) (Outcome.No c q) → Q (no c q)) (there : (p : Product) (at : ℕ) (r : Rule) → Q (f p at r)) where
+  asked-listed : (edition k : ℕ) (s : List ℕ) → Q (asked no f edition k s)
+  unfolding asked
+  asked-listed edition k s = by (editionOf edition)
+    where
+      first : (p : Product) (at : ℕ) (rs : List Rule) → Q (askedFirst no (f p) at rs)
+      first p at [] = says-no Fault.Absent 0 (absent-listed last 0 (omega arith) (omega arith))
+      first p at (r ∷ rs) = there p at r
+
+      read : (p : Product) (a : Answer (List Rule)) → readAs p s ≡ a → Q (askedOf no f k p a)
+      read p (got rs n) e = first p _ (drop k rs)
+      read p (refused c q) e = says-no c q (faulty-listed (numbers 16 16 last ∷ []) c q (deck-faulty p s c q e))
+
+      by : (o : Edition) → Q (askedBy no f k o s)
+      by (Edition.Of p) = read p (readAs p s) refl
+      by Edition.Unknown = says-no Fault.Edition 0 (edition-listed (numbers 16 16 last ∷ []))
+
+abbrev Viewed : ℕ → View → Type 0
+Viewed last v = Lists (viewNumbers last) (viewSays v)
+
+pub name-listed : (edition k : ℕ) (s : List ℕ) → Lists (viewNumbers 0) (viewSays (nameView edition k s))
+unfolding nameView
+name-listed edition k s = asked-listed View.No (λ p. nameAt) 0 (Viewed 0) (λ c q f. f) (λ p at r. tt) edition k s
+
+-- "no such rule / element / word, or no word list there": 0, 1 or 2
+pub word-listed : (edition k e w : ℕ) (s : List ℕ) → Lists (viewNumbers 2) (viewSays (wordView edition k e w s))
+unfolding wordView
+word-listed edition k e w s = asked-listed View.No (ruleWord k e w) 2 (Viewed 2) (λ c q f. f) (λ p at r. element (drop e (r .elements)) _) edition k s
+  where
+    worded : (ws : List (List ℕ)) (at : ℕ) → Viewed 2 (wordAt at ws)
+    worded [] at = absent-listed 2 2 (omega arith) (omega arith)
+    worded (us ∷ ws) at = tt
+
+    element : (xs : List Element) (at : ℕ) → Viewed 2 (elementWord e w at xs)
+    element [] at = absent-listed 2 1 (omega arith) (omega arith)
+    element (x ∷ xs) at = worded (drop w (wordsOf (x .1))) _
+
+abbrev pub fieldsSay : Fielded → Outcome
+fieldsSay (Fielded.Is f) = Outcome.Done 0
+fieldsSay (Fielded.No c q) = Outcome.No c q
+
+pub fixed-listed : (edition k : ℕ) (s : List ℕ) → Lists (viewNumbers 0) (fieldsSay (fixedFields edition k s))
+unfolding fixedFields
+fixed-listed edition k s = asked-listed Fielded.No (λ p. fixedAt) 0 (λ v. Lists (viewNumbers 0) (fieldsSay v)) (λ c q f. f) (λ p at r. tt) edition k s
+
+-- ---- the edits
+
+-- "16 (k first), 22, 21, 17", and what is wrong with what an edit is given
+abbrev pub ownNumbers : Edit → List Numbers
+ownNumbers (switch k on) = exactly 16 0 ∷ []
+ownNumbers (rename k name) = exactly 16 0 ∷ exactly 17 0 ∷ []
+ownNumbers (remove k) = exactly 16 0 ∷ []
+ownNumbers (insert k second j) = numbers 34 45 60000 ∷ numbers 16 16 1 ∷ []
+ownNumbers (addRule name f id s) = exactly 17 0 ∷ elementNumbers
+ownNumbers (addElement id s) = numbers 21 22 0 ∷ elementNumbers
+ownNumbers (addWord word) = numbers 21 22 0 ∷ exactly 17 0 ∷ []
+
+-- "An edit: 1, 15, 2 to 13 on its deck", its own, "18, 19, 20"
+abbrev pub laterNumbers : Edit → List Numbers
+laterNumbers e = exactly 15 0 ∷ numbers 18 20 0 ∷ ownNumbers e
+
+abbrev pub editNumbers : Edit → List Numbers
+editNumbers e = numbers 1 13 60000 ∷ laterNumbers e
+
+abbrev OwnListed : Edit → Fault → ℕ → Type 0
+OwnListed e c q = Lists (editNumbers e) (Outcome.No c q)
+
+abbrev GivenListed : Edit → Fault → ℕ → Type 0
+GivenListed e c q = Lists (editNumbers e) (Outcome.Given c q)
+
+own-listed : (e : Edit) → Own (OwnListed e) e
+unfolding among within
+own-listed (switch k on) = (refl, omega arith)
+own-listed (rename k name) = ((refl, omega arith), (refl, refl))
+own-listed (remove k) = (refl, omega arith)
+own-listed (insert k second j) = ((refl, omega arith), (refl, omega arith))
+own-listed (addRule name f id s) = (refl, refl)
+own-listed (addElement id s) = ((refl, refl), (refl, refl))
+own-listed (addWord word) = ((refl, refl), ((refl, refl), (refl, refl)))
+
+-- what is among its own numbers is among an edit's
+later : (e : Edit) (n q : ℕ) → among (ownNumbers e) n q ≡ true → among (editNumbers e) n q ≡ true
+later e n q f = among-later (numbers 1 13 60000) (laterNumbers e) n q (among-later (exactly 15 0) (numbers 18 20 0 ∷ ownNumbers e) n q (among-later (numbers 18 20 0) (ownNumbers e) n q f))
+
+given-listed : (p : Product) (e : Edit) → Lent e → OfGiven (GivenListed e) p e
+unfolding Lent
+given-listed p (switch k on) h = tt
+given-listed p (rename k name) h = tt
+given-listed p (remove k) h = tt
+given-listed p (insert k second j) h = λ c q e.
+    let f = deck-faulty p second c q e in
+    let w = within-is 2 13 (numberOf c) (f .0) in
+    (later (insert k second j) (numberOf c + 32) q (among-first 34 45 60000 (numbers 16 16 1 ∷ []) (numberOf c + 32) q (omega arith) (omega arith) (f .1 .0)), f .1 .1)
+given-listed p (addRule name g id s) h = λ c q e. let f = element-listed p id s h c q e in (later (addRule name g id s) (numberOf c + 32) q (among-later (exactly 17 0) elementNumbers (numberOf c + 32) q (f .0)), f .1)
+given-listed p (addElement id s) h = λ c q e. let f = element-listed p id s h c q e in (later (addElement id s) (numberOf c + 32) q (among-later (numbers 21 22 0) elementNumbers (numberOf c + 32) q (f .0)), f .1)
+given-listed p (addWord word) h = tt
+
+plan-listed : (edition n : ℕ) (d : List ℕ) (e : Edit) → Lent e → Lists (editNumbers e) (says (planned edition n d e))
+unfolding planned room says pick among within
+plan-listed edition n d e h = by (editionOf edition)
+  where
+    room-listed : (x : Plan) → Only (OwnListed e) (GivenListed e) x → Lists (editNumbers e) (says (inRoom (length d) x))
+    room-listed (become rs) f = few (leb (length rs) 256) (leb (length (written rs)) 60000) (leb (length (written rs)) (length d))
+      where
+        few : (a b c : Bool) → Lists (editNumbers e) (says (pick a (pick b (pick c (become rs) (refuse Fault.Room 0)) (refuse Fault.Large 0)) (refuse Fault.Rules 0)))
+        few true true true = tt
+        few true true false = (refl, refl)
+        few true false c = (refl, refl)
+        few false b c = (refl, refl)
+    room-listed (refuse c q) f = f
+    room-listed (refuseGiven c q) f = f
+
+    read : (p : Product) (a : Answer (List Rule)) → readAs p (take n d) ≡ a → Lists (editNumbers e) (says (plan p (length d) e a))
+    read p (got rs m) f = room-listed (edited p e rs) (only-edited (OwnListed e) (GivenListed e) p e rs (own-listed e) (given-listed p e h))
+    read p (refused c q) f = faulty-listed (laterNumbers e) c q (deck-faulty p (take n d) c q f)
+
+    stated : (p : Product) (t : Bool) → Lists (editNumbers e) (says (pick t (plan p (length d) e (readAs p (take n d))) (refuse Fault.Stated 0)))
+    stated p true = read p (readAs p (take n d)) refl
+    stated p false = (refl, refl)
+
+    by : (o : Edition) → Lists (editNumbers e) (says (planBy o n d e))
+    by (Edition.Of p) = stated p (leb n (length d))
+    by Edition.Unknown = (refl, refl)
+
+pub edit-listed : (edition n : ℕ) (e : Edit) (d : List ℕ) {r : Outcome} {x : List ℕ} → Lent e → Edits edition n e d r x → Lists (editNumbers e) r
+edit-listed edition n e d h f = rw (f .0) (plan-listed edition n d e h)

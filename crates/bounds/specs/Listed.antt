@@ -1,0 +1,97 @@
+-- Every refusal is one of document 01's table, "Numbers a refusal gives": by a number that its call may give, and at a place that its row has.
+use Prim.Native.Nat.{ℕ, _+_, _≤_}
+use mathlib.Core.Path.{_≡_, refl}
+use mathlib.Core.Bool.{Bool, true, false, _&&_, _||_}
+use mathlib.Core.List.{List, [], _∷_}
+use lib.Dec.{leb, eqb}
+use borrow.Author.Tests.{le-leb}
+use Rattle.format.specs.declared.Fault.{Fault}
+use Rattle.format.specs.declared.Fault.the-variants as Fault
+use Rattle.format.specs.declared.Outcome.{Outcome}
+use Rattle.format.specs.declared.Outcome.the-variants as Outcome
+use Rattle.format.specs.Fault.{numberOf}
+use Rattle.format.specs.Number.{within}
+
+-- the table's places
+abbrev pub Listed : Fault → ℕ → Type 0
+-- 1, edition not 1 or 2
+Listed Fault.Edition q = q ≡ 0
+-- 2, deck over 60,000 bytes
+Listed Fault.Long q = q ≡ 60000
+-- 3, a field runs past the end: its start
+Listed Fault.Cut q = q ≤ 60000
+-- 4 and 5, mark or version wrong
+Listed Fault.Mark q = q ≡ 0
+Listed Fault.Version q = q ≡ 3
+-- 6, count of rules, elements or words outside its range: the count
+Listed Fault.Count q = q ≤ 60000
+-- 7, long form for fewer than 255 units, or over 255 units: the String
+Listed Fault.Form q = q ≤ 60000
+-- 8, any other field with a set value differs: the field
+Listed Fault.Field q = q ≤ 60000
+-- 9, identifier not among the 35: the identifier
+Listed Fault.Unknown q = q ≤ 60000
+-- 10, among the 35, not in this edition: the identifier
+Listed Fault.Foreign q = q ≤ 60000
+-- 11, date out of range: the date
+Listed Fault.Date q = q ≤ 60000
+-- 12, Data Size wrong: its field
+Listed Fault.Size q = q ≤ 60000
+-- 13, bytes left over: first of them
+Listed Fault.Over q = q ≤ 60000
+-- 14, rule table or element table too small: 0 or 1
+Listed Fault.Table q = q ≤ 1
+-- 15, stated length beyond the buffer
+Listed Fault.Stated q = q ≡ 0
+-- 16, no rule k or place k, or no rule j: 0 or 1; for a view, no such rule, element or word: 0, 1 or 2
+Listed Fault.Absent q = q ≤ 2
+-- 17, new name or word has an odd byte count or over 510 bytes
+Listed Fault.Text q = q ≡ 0
+-- 18, result over 256 rules
+Listed Fault.Rules q = q ≡ 0
+-- 19, result over 60,000 bytes
+Listed Fault.Large q = q ≡ 0
+-- 20, result longer than the buffer
+Listed Fault.Room q = q ≡ 0
+-- 21, rule has 64 elements, or list has 64 words
+Listed Fault.Full q = q ≡ 0
+-- 22, no rule, or last element is no word list
+Listed Fault.Last q = q ≡ 0
+
+-- the numbers that a call may give: from one to another at places up to a third, or one at one place
+pub data Numbers : Type 0 where
+  numbers : ℕ → ℕ → ℕ → Numbers
+  exactly : ℕ → ℕ → Numbers
+
+unfoldable pub among : List Numbers → ℕ → ℕ → Bool
+among [] n q = false
+among (numbers low high last ∷ rows) n q = (within low high n && leb q last) || among rows n q
+among (exactly m o ∷ rows) n q = (eqb n m && eqb q o) || among rows n q
+
+-- an answer, if it is a refusal, is one of the table: "34 to 45: 2 to 13 plus 32, the same fault", at a place "there"
+abbrev pub Lists : List Numbers → Outcome → Type 0
+Lists rows (Outcome.Done n) = Unit {0}
+Lists rows (Outcome.No c q) = (among rows (numberOf c) q ≡ true) × Listed c q
+Lists rows (Outcome.Given c q) = (among rows (numberOf c + 32) q ≡ true) × Listed c q
+
+-- ---- laws
+
+within-true : (low high n : ℕ) → low ≤ n → n ≤ high → within low high n ≡ true
+unfolding within
+within-true low high n f g = rw (le-leb low n f, le-leb n high g)
+
+pub among-first : (low high last : ℕ) (rows : List Numbers) (n q : ℕ) → low ≤ n → n ≤ high → q ≤ last → among (numbers low high last ∷ rows) n q ≡ true
+unfolding among
+among-first low high last rows n q f g h = rw (within-true low high n f g, le-leb q last h)
+
+pub among-later : (row : Numbers) (rows : List Numbers) (n q : ℕ) → among rows n q ≡ true → among (row ∷ rows) n q ≡ true
+unfolding among
+among-later row rows n q e = by row
+  where
+    go : (b : Bool) → (b || among rows n q) ≡ true
+    go true = refl
+    go false = e
+
+    by : (row : Numbers) → among (row ∷ rows) n q ≡ true
+    by (numbers low high last) = go (within low high n && leb q last)
+    by (exactly m o) = go (eqb n m && eqb q o)
