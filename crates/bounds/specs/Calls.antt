@@ -35,7 +35,7 @@ use Rattle.view.specs.declared.Fielded.the-variants as Fielded
 use Rattle.view.specs.Asked.{asked, askedBy, askedOf, askedFirst}
 use Rattle.view.specs.View.{nameAt, nameView, viewSays}
 use Rattle.view.specs.Word.{wordAt, elementWord, ruleWord, wordView}
-use Rattle.view.specs.Fixed.{fixedAt, fixedFields}
+use Rattle.view.specs.Fixed.{fixedAt, fixedFields, fieldsSay}
 use Rattle.bounds.specs.Refused.{Only, Own, OfGiven, only-edited}
 use Rattle.bounds.specs.Places.{Lent}
 use Rattle.bounds.specs.Listed.{Numbers, among, Lists, among-first, among-later, numbers, exactly}
@@ -134,10 +134,6 @@ word-listed edition k e w s = asked-listed View.No (ruleWord k e w) 2 (Viewed 2)
     element : (xs : List Element) (at : ℕ) → Viewed 2 (elementWord e w at xs)
     element [] at = absent-listed 2 1 (omega arith) (omega arith)
     element (x ∷ xs) at = worded (drop w (wordsOf (x .1))) _
-
-abbrev pub fieldsSay : Fielded → Outcome
-fieldsSay (Fielded.Is f) = Outcome.Done 0
-fieldsSay (Fielded.No c q) = Outcome.No c q
 
 pub fixed-listed : (edition k : ℕ) (s : List ℕ) → Lists (viewNumbers 0) (fieldsSay (fixedFields edition k s))
 unfolding fixedFields

@@ -8,6 +8,7 @@ use lib.Dec.{eqb}
 use lib.ListN.{length}
 use Rattle.format.specs.declared.Fault.{Fault}
 use Rattle.format.specs.declared.Fault.the-variants as Fault
+use Rattle.format.specs.Fault.{placeOf}
 use Rattle.format.specs.Format.{Answer, got, refused, endOf, whole, pick, Format, Bytes, end-mapped}
 use Rattle.format.specs.Join.{pair, judged, via, seq}
 use Rattle.format.specs.Number.{number, count, within-is, fixed, flag}
@@ -18,7 +19,7 @@ use Rattle.kind.specs.declared.Kind.{Kind}
 use Rattle.kind.specs.declared.Kind.the-variants as Kind
 use Rattle.kind.specs.declared.Row.{Row}
 use Rattle.kind.specs.declared.Row.the-variants as Row
-use Rattle.kind.specs.Kinds.{kinds, has, rowIn, inProduct, offered, rowOf, rowPlace, lacking, foreign}
+use Rattle.kind.specs.Kinds.{kinds, has, rowIn, inProduct, offered, rowOf, kindSays, lacking, foreign}
 use Rattle.element.specs.Data.{oneZero, markerData, simpleData, wordCount, wordData, sizeData, limit, dateData, dataOf}
 use Rattle.plan.specs.Given.{given, givenBy, withData}
 use Rattle.bounds.specs.Bounded.{Bounded, bounded-number, bounded-nothing, bounded-pick, bounded-judged, bounded-via, bounded-start, bounded-pair, bounded-then, bounded-fixed, bounded-flag, bounded-count, bounded-listed}
@@ -69,6 +70,9 @@ bounded-data (Kind.Size r) = wider _ 16 most (omega arith) (bounded-via _ _ _ _ 
 bounded-data (Kind.Dates r) = wider _ 40 most (omega arith) (bounded-via _ _ _ _ 40 (bounded-then oneZero (pair limit (λ x. limit)) 8 32 one-zero (bounded-pair limit (λ x. limit) 16 16 limited (λ x f. limited))))
 
 -- ---- a given element
+
+abbrev rowPlace : Row → ℕ
+rowPlace r = placeOf (kindSays r)
 
 -- 41 and 42 "have place 0"
 row-place : (rows : List (Kind × List ℕ)) (id : ℕ) → rowPlace (rowIn rows id) ≡ 0

@@ -21,23 +21,22 @@ use Rattle.kind.specs.declared.Edition.the-variants as Edition
 use Rattle.kind.specs.declared.Kind.{Kind}
 use Rattle.kind.specs.declared.Row.{Row}
 use Rattle.kind.specs.declared.Row.the-variants as Row
-use Rattle.kind.specs.Kinds.{editionOf, rowOf, rowBy, kindOf}
+use Rattle.kind.specs.Kinds.{kindSays, editionOf, rowOf, rowBy, kindOf}
 use Rattle.moment.specs.declared.Moment.{Moment}
 use Rattle.moment.specs.declared.Moment.the-variants as Moment
-use Rattle.moment.specs.Moment.{Says}
+use Rattle.moment.specs.Moment.{momentSays, Says}
 use Rattle.element.specs.Data.{Data, dataOf}
 use Rattle.value.specs.declared.Value.{Value}
 use Rattle.value.specs.declared.Value.the-variants as Value
-use Rattle.value.specs.declared.Valued.{Valued}
 use Rattle.value.specs.declared.Valued.the-variants as Valued
-use Rattle.value.specs.Value.{fromData, fromKind, fromRow, fromEdition, valueOf}
+use Rattle.value.specs.Value.{valueSays, fromData, fromKind, fromRow, fromEdition, valueOf}
 use Rattle.put.specs.Plan.{Fitted, holds, lacks, fromSpan, fromValue, isOf, fitted, write, deny, ifRoom, planData, planKind, planRow, planEdition, putting, putSays}
 use Rattle.rule.specs.Rule.{Rule}
 use Rattle.deck.specs.Deck.{readAs, readDeck, answered, scanned}
 use Rattle.tables.specs.Tables.{tabled, readSays, rulesLeft, rulesAfter, elementsLeft, elementsAfter}
 use Rattle.view.specs.View.{viewSays, nameView}
 use Rattle.view.specs.Word.{wordView}
-use Rattle.view.specs.Fixed.{fixedFields}
+use Rattle.view.specs.Fixed.{fixedFields, fieldsSay}
 use Rattle.plan.specs.Edit.{Edit, Plan, become, refuse, refuseGiven, planned, says, leaves}
 use Rattle.plan.specs.Given.{given, givenBy, withData}
 use Rattle.plan.specs.Found.{Edits}
@@ -46,7 +45,7 @@ use Rattle.bounds.specs.Data.{row-refuses}
 use Rattle.bounds.specs.Places.{Lent}
 use Rattle.bounds.specs.Listed.{Numbers, numbers, exactly, among, among-later, Lists}
 use Rattle.bounds.specs.Faulty.{elementNumbers, element-listed}
-use Rattle.bounds.specs.Calls.{checkNumbers, check-listed, passSays, pass-listed, readNumbers, read-listed, viewNumbers, name-listed, word-listed, fieldsSay, fixed-listed, editNumbers, edit-listed}
+use Rattle.bounds.specs.Calls.{checkNumbers, check-listed, passSays, pass-listed, readNumbers, read-listed, viewNumbers, name-listed, word-listed, fixed-listed, editNumbers, edit-listed}
 
 -- the answer and the buffer of an edit are functions of what it was called with: two outcomes that the promise allows coincide
 pub edits-coincide : (edition n : ℕ) (e : Edit) (d : List ℕ) {r q : Outcome} {x y : List ℕ} → Edits edition n e d r x → Edits edition n e d q y → (r ≡ q) × (x ≡ y)
@@ -113,10 +112,6 @@ start-refuses cap = go (leb 7 cap)
     go false = (refl, refl)
 
 -- "An identifier alone .. 1, 9 or 10 at 0"
-abbrev pub kindSays : Row → Outcome
-kindSays (Row.Is k) = Outcome.Done 0
-kindSays (Row.No c q) = Outcome.No c q
-
 abbrev pub kindNumbers : List Numbers
 kindNumbers = exactly 1 0 ∷ exactly 9 0 ∷ exactly 10 0 ∷ []
 
@@ -133,21 +128,12 @@ kind-refuses edition id = by (editionOf edition)
     by Edition.Unknown = (refl, refl)
 
 -- "a lone date answers 11 at 0"
-abbrev pub momentSays : Moment → Outcome
-momentSays (Moment.At c second) = Outcome.Done 0
-momentSays (Moment.No c q) = Outcome.No c q
-
 pub moment-refuses : (bits : ℕ) (m : Moment) → Says bits m → Lists (exactly 11 0 ∷ []) (momentSays m)
 unfolding among
 moment-refuses bits (Moment.At c second) f = tt
 moment-refuses bits (Moment.No c q) f = rw (f .why, f .start) (refl, omega arith)
 
 -- "Turning lone element data into a value takes an edition and answers 1 first, then as for a given element"
-abbrev pub valueSays : Valued → Outcome
-valueSays (Valued.Is v) = Outcome.Done 0
-valueSays (Valued.No c q) = Outcome.No c q
-valueSays (Valued.Given c q) = Outcome.Given c q
-
 abbrev pub valueNumbers : List Numbers
 valueNumbers = exactly 1 0 ∷ elementNumbers
 

@@ -10,7 +10,8 @@ use borrow.Author.Tests.{ne-eqb}
 use borrow.Author.Needs.{needs}
 use Rattle.format.specs.declared.Fault.{Fault}
 use Rattle.format.specs.declared.Fault.the-variants as Fault
-use Rattle.format.specs.Fault.{numberOf}
+use Rattle.format.specs.declared.Outcome.{Outcome}
+use Rattle.format.specs.declared.Outcome.the-variants as Outcome
 use Rattle.format.specs.Format.{pick}
 use Rattle.kind.specs.declared.Product.{Product}
 use Rattle.kind.specs.declared.Product.the-variants.{Desk, Studio}
@@ -81,14 +82,10 @@ rowBy Edition.Unknown id = No Fault.Edition 0
 unfoldable pub kindOf : ℕ → ℕ → Row
 kindOf edition id = rowBy (editionOf edition) id
 
--- the number and the place of a row's answer; where there is a row, 0 and 0
-abbrev pub rowCode : Row → ℕ
-rowCode (Is k) = 0
-rowCode (No c q) = numberOf c
-
-abbrev pub rowPlace : Row → ℕ
-rowPlace (Is k) = 0
-rowPlace (No c q) = q
+-- the answer as document 01 has it
+abbrev pub kindSays : Row → Outcome
+kindSays (Is k) = Outcome.Done 0
+kindSays (No c q) = Outcome.No c q
 
 -- the identifiers of a product: 17 in Desk, 35 in Studio
 unfoldable pub identifiers : Product → List (Kind × List ℕ) → List ℕ

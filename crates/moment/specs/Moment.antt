@@ -2,7 +2,8 @@
 use Prim.Native.Nat.{ℕ, _+_, _-_, _*_, _/_, _%_}
 use mathlib.Core.Path.{_≡_, refl}
 use mathlib.Core.Bool.{true, false}
-use Rattle.format.specs.Fault.{numberOf}
+use Rattle.format.specs.declared.Outcome.{Outcome}
+use Rattle.format.specs.declared.Outcome.the-variants as Outcome
 use Rattle.format.specs.Format.{pick}
 use Rattle.format.specs.declared.Fault.{Fault}
 use Rattle.format.specs.declared.Fault.the-variants as Fault
@@ -47,11 +48,7 @@ abbrev pub Says : ℕ → Moment → Type 0
 Says bits (At c second) = Shows bits c second
 Says bits (No fault place) = Refuses bits fault place
 
--- the number and the place of a moment's answer; where there is a moment, 0 and 0
-abbrev pub momentCode : Moment → ℕ
-momentCode (At c second) = 0
-momentCode (No fault place) = numberOf fault
-
-abbrev pub momentPlace : Moment → ℕ
-momentPlace (At c second) = 0
-momentPlace (No fault place) = place
+-- the answer as document 01 has it
+abbrev pub momentSays : Moment → Outcome
+momentSays (At c second) = Outcome.Done 0
+momentSays (No fault place) = Outcome.No fault place

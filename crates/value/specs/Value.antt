@@ -1,11 +1,12 @@
 -- The value of an element's data: document 01, "The deck" and "Numbers a refusal gives".
-use Prim.Native.Nat.{ℕ, _+_}
+use Prim.Native.Nat.{ℕ}
 use mathlib.Core.List.{List}
 use lib.ListN.{length}
 use lib.Ieee.{binary64, ofBits}
 use Rattle.format.specs.declared.Fault.{Fault}
 use Rattle.format.specs.declared.Fault.the-variants as Fault
-use Rattle.format.specs.Fault.{numberOf}
+use Rattle.format.specs.declared.Outcome.{Outcome}
+use Rattle.format.specs.declared.Outcome.the-variants as Outcome
 use Rattle.format.specs.Format.{Answer, got, refused, whole}
 use Rattle.kind.specs.declared.Edition.{Edition}
 use Rattle.kind.specs.declared.Edition.the-variants as Edition
@@ -56,13 +57,8 @@ fromEdition Edition.Unknown id s = No Fault.Edition 0
 unfoldable pub valueOf : ℕ → ℕ → List ℕ → Valued
 valueOf edition id s = fromEdition (editionOf edition) id s
 
--- the number and the place of an answer; where it is a value, 0 and 0
-abbrev pub valuedCode : Valued → ℕ
-valuedCode (Is v) = 0
-valuedCode (No c p) = numberOf c
-valuedCode (Given c p) = numberOf c + 32
-
-abbrev pub valuedPlace : Valued → ℕ
-valuedPlace (Is v) = 0
-valuedPlace (No c p) = p
-valuedPlace (Given c p) = p
+-- the answer as document 01 has it
+abbrev pub valueSays : Valued → Outcome
+valueSays (Is v) = Outcome.Done 0
+valueSays (No c q) = Outcome.No c q
+valueSays (Given c q) = Outcome.Given c q

@@ -7,6 +7,8 @@ use mathlib.Core.Bool.{Bool, true, false}
 use mathlib.Core.List.{List}
 use lib.Dec.{eqb}
 use lib.ListN.{length}
+use Rattle.format.specs.declared.Outcome.{Outcome}
+use Rattle.format.specs.declared.Outcome.the-variants as Outcome
 use Rattle.format.specs.declared.Read.{Read}
 use Rattle.format.specs.declared.Read.the-variants as Read
 use Rattle.format.specs.Format.{pick}
@@ -30,6 +32,11 @@ fixedAt at r = Is (fixedOf r)
 
 unfoldable pub fixedFields : ℕ → ℕ → List ℕ → Fielded
 fixedFields edition k s = asked No (λ p. fixedAt) edition k s
+
+-- the answer as document 01 has it
+abbrev pub fieldsSay : Fielded → Outcome
+fieldsSay (Is f) = Outcome.Done 0
+fieldsSay (No c q) = Outcome.No c q
 
 -- ---- as the code finds it
 
