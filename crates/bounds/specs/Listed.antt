@@ -12,22 +12,22 @@ use Rattle.format.specs.declared.Outcome.the-variants as Outcome
 use Rattle.format.specs.Fault.{numberOf}
 use Rattle.format.specs.Number.{within}
 
--- the table's places
+-- the table, in its order: number, when, and its place
 abbrev pub Listed : Fault → ℕ → Type 0
--- 1, edition not 1 or 2
+-- 1, edition not 1 or 2: 0
 Listed Fault.Edition q = q ≡ 0
--- 2, deck over 60,000 bytes
+-- 2, deck over 60,000 bytes: 60000
 Listed Fault.Long q = q ≡ 60000
 -- 3, a field runs past the end: its start
 Listed Fault.Cut q = q ≤ 60000
--- 4 and 5, mark or version wrong
+-- 4 / 5, mark / version wrong: 0 / 3
 Listed Fault.Mark q = q ≡ 0
 Listed Fault.Version q = q ≡ 3
 -- 6, count of rules, elements or words outside its range: the count
 Listed Fault.Count q = q ≤ 60000
 -- 7, long form for fewer than 255 units, or over 255 units: the String
 Listed Fault.Form q = q ≤ 60000
--- 8, any other field with a set value differs: the field
+-- 8, any other field with a set value (Enabled, flags, heads, 8001, constants) differs: the field
 Listed Fault.Field q = q ≤ 60000
 -- 9, identifier not among the 35: the identifier
 Listed Fault.Unknown q = q ≤ 60000
@@ -39,23 +39,23 @@ Listed Fault.Date q = q ≤ 60000
 Listed Fault.Size q = q ≤ 60000
 -- 13, bytes left over: first of them
 Listed Fault.Over q = q ≤ 60000
--- 14, rule table or element table too small: 0 or 1
+-- 14, rule table / element table too small: 0 / 1
 Listed Fault.Table q = q ≤ 1
--- 15, stated length beyond the buffer
+-- 15, stated length beyond the buffer: 0
 Listed Fault.Stated q = q ≡ 0
--- 16, no rule k or place k, or no rule j: 0 or 1; for a view, no such rule, element or word: 0, 1 or 2
+-- 16, no rule k or place k / no rule j: 0 / 1; for a view: no such rule / element / word, or no word list there: 0 / 1 / 2
 Listed Fault.Absent q = q ≤ 2
--- 17, new name or word has an odd byte count or over 510 bytes
+-- 17, new name or word has an odd byte count or over 510 bytes: 0
 Listed Fault.Text q = q ≡ 0
--- 18, result over 256 rules
+-- 18, result over 256 rules: 0
 Listed Fault.Rules q = q ≡ 0
--- 19, result over 60,000 bytes
+-- 19, result over 60,000 bytes: 0
 Listed Fault.Large q = q ≡ 0
--- 20, result longer than the buffer
+-- 20, result longer than the buffer: 0
 Listed Fault.Room q = q ≡ 0
--- 21, rule has 64 elements, or list has 64 words
+-- 21, rule has 64 elements, or list has 64 words: 0
 Listed Fault.Full q = q ≡ 0
--- 22, no rule, or last element is no word list
+-- 22, no rule, or last element is no word list: 0
 Listed Fault.Last q = q ≡ 0
 
 -- the numbers that a call may give: from one to another at places up to a third, or one at one place
