@@ -54,15 +54,15 @@ on-end k f (refused c j) = refl
 
 -- one after the other, the second by a value of the first that fits
 module _ {A B : Type 0} (a : Format A) (b : A → Format B) where
-  joined : A → B → A × B
-  joined x y = (x, y)
+  paired : A → B → A × B
+  paired x y = (x, y)
 
   pub bounded-pair : (m n : ℕ) → Bounded a m → ((x : A) → a .Fit x → Bounded (b x) n) → Bounded (pair a b) (m + n)
-  unfolding Bounded pair pairRead andThen endOf joined
+  unfolding Bounded pair pairRead andThen endOf paired
   bounded-pair m n f g s bs = go (a .read s) refl (f s bs)
     where
-      go : (q : Answer A) → a .read s ≡ q → endOf q ≤ m → endOf (andThen q (λ x k. mapped (joined x) (b x .read (drop k s)))) ≤ m + n
-      go (got x k) e h = omega (arith, on-end k (joined x) (b x .read (drop k s)), g x (a .forth s x k bs e .fit) (drop k s) (bytes-drop k s bs))
+      go : (q : Answer A) → a .read s ≡ q → endOf q ≤ m → endOf (andThen q (λ x k. mapped (paired x) (b x .read (drop k s)))) ≤ m + n
+      go (got x k) e h = omega (arith, on-end k (paired x) (b x .read (drop k s)), g x (a .forth s x k bs e .fit) (drop k s) (bytes-drop k s bs))
       go (refused c q) e h = omega arith
 
 pub bounded-then : {B : Type 0} (a : Format (Unit {0})) (b : Format B) (m n : ℕ) → Bounded a m → Bounded b n → Bounded (a then b) (m + n)

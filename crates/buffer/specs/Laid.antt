@@ -9,7 +9,7 @@ use lib.Dec.{leb}
 use lib.ListN.{length, take, drop, set, replicate, length-append, length-take, length-drop, length-replicate, take-append-drop, replicate-append-replicate}
 use lib.Seq.{take-append-seam, drop-append-seam, drop-append-add, drop-drop, take-at, drop-at, length-take-le}
 use borrow.Author.Tests.{le-leb, leb-true}
-use Rattle.format.specs.Format.{pick}
+use Rattle.format.specs.Format.{both, pick}
 
 abbrev pub zeros : ℕ → List ℕ
 zeros n = replicate n 0
@@ -52,10 +52,6 @@ left-out : (x y : List ℕ) (t : Bool) → (t ≡ true → ⊥) → x ≡ pick t
 unfolding pick
 left-out x y true h = absurd (h refl)
 left-out x y false h = refl
-
-both : (t u : Bool) → (t && u) ≡ true → (t ≡ true) × (u ≡ true)
-both true u h = (refl, h)
-both false u h = absurd (let z : _≡_ {A = ℕ} 0 1 = cc in omega arith)
 
 module _ (d : List ℕ) where
   pub put-in : (at : ℕ) (bs : List ℕ) → at + length bs ≤ length d → putIn d at bs ≡ put d at bs

@@ -65,14 +65,14 @@ ofMoment (Moment.At c second) = on (c .year) (c .month) (c .day) second
 ofMoment (Moment.No c p) = says (numberOf c) p
 
 -- the definitions answer so; of a date, its bits are its number, and its promise allows a moment that says so
-abbrev pub Holds : Asked → Said → Type 0
-Holds (deckOf edition s) a = ofDeck (readDeck edition s) ≡ a
-Holds (identifierOf edition id) a = ofRow (kindOf edition id) ≡ a
-Holds (dateOf x bits) a = ((negative bits ≡ x .0) × (size bits * 4 ≡ x .1 * day)) × ((m : Moment) × (Says bits m × (ofMoment m ≡ a)))
+abbrev pub Answers : Asked → Said → Type 0
+Answers (deckOf edition s) a = ofDeck (readDeck edition s) ≡ a
+Answers (identifierOf edition id) a = ofRow (kindOf edition id) ≡ a
+Answers (dateOf x bits) a = ((negative bits ≡ x .0) × (size bits * 4 ≡ x .1 * day)) × ((m : Moment) × (Says bits m × (ofMoment m ≡ a)))
 
-abbrev pub AllHold : List (Asked × Said) → Type 0
-AllHold [] = Unit {0}
-AllHold (c ∷ cs) = Holds (c .0) (c .1) × AllHold cs
+abbrev pub AllAnswer : List (Asked × Said) → Type 0
+AllAnswer [] = Unit {0}
+AllAnswer (c ∷ cs) = Answers (c .0) (c .1) × AllAnswer cs
 
 abbrev pub noon : ℕ
 noon = 12 * 3600
@@ -165,10 +165,10 @@ said bits (says n p) (a, (e, (z, u))) = (
 )
 said bits (isKind k) (a, u) = absurd a
 
-date : (x : Bool × ℕ) (bits : ℕ) (a : Said) → negative bits ≡ x .0 → T (every (tests x bits a)) → Holds (dateOf x bits) a
+date : (x : Bool × ℕ) (bits : ℕ) (a : Said) → negative bits ≡ x .0 → T (every (tests x bits a)) → Answers (dateOf x bits) a
 date x bits a e t = let b = all (tests x bits a) t in ((e, eqb→eq (size bits * 4) (x .1 * day) (b .0)), said bits a (b .1))
 
-pub cases-hold : AllHold cases
+pub cases-hold : AllAnswer cases
 unfolding sample mark header deck whole readAs readBy readDeck className classHead firstHead head placed body fromUnknown4 fromUnknown2 fields rule identifier element oneZero simpleData editionOf has rowIn offered rowOf rowBy kindOf extended stringLength string sized measured weighed each eachRead counted listed number numberRead within count fixed bytes flag bit value pair pairRead seq _then_ judged judgeOf judge via home atStart nothing shift mapped andThen pick day leap monthsDays yearsDays dayOf origin dayIn secondIn
 cases-hold =
     (refl, (refl, (refl, (refl, (refl, (refl, (refl, (refl, (refl, (refl, (refl, (date (plus 2 2) _ _ refl tt, (date (minus 1 1) _ _ refl tt, (date (minus 0 1) _ _ refl tt, (date (minus 657434 0) _ _ refl tt, (date (plus 2958465 2) _ _ refl tt, (date (minus 657435 0) _ _ refl tt, (date (plus 2958466 0) _ _ refl tt, tt))))))))))))))))))

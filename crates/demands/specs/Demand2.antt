@@ -11,7 +11,7 @@ use lib.ListN.{length}
 use borrow.Author.Needs.{needs}
 use borrow.Author.Tests.{ne-eqb}
 use Rattle.format.specs.declared.Fault.the-variants as Fault
-use Rattle.format.specs.Format.{got, Bytes, pick}
+use Rattle.format.specs.Format.{both, got, Bytes, pick}
 use Rattle.kind.specs.declared.Product.{Product}
 use Rattle.kind.specs.declared.Product.the-variants.{Desk, Studio}
 use Rattle.kind.specs.declared.Role.the-variants.{Condition, Exception}
@@ -41,10 +41,6 @@ computed : (p : Product) → allSame p 0 0x220 ≡ true
 unfolding allSame same rowOf offered rowIn has identifiers pick
 computed Desk = refl
 computed Studio = refl
-
-both : (a b : Bool) → (a && b) ≡ true → (a ≡ true) × (b ≡ true)
-both true b e = (refl, e)
-both false b e = absurd (let z : _≡_ {A = ℕ} 0 1 = cc in omega arith)
 
 same-at : (p : Product) (i n k : ℕ) → allSame p i n ≡ true → k < n → same p (i + k) ≡ true
 unfolding allSame

@@ -2,7 +2,7 @@
 use Prim.Native.Nat.{ℕ, zero, suc, _+_, _-_, _≤_, _<_}
 use native.Mathlib.Omega.{arith}
 use mathlib.Core.Path.{_≡_, refl, sym, _∙_}
-use mathlib.Core.Bool.{Bool, true, false}
+use mathlib.Core.Bool.{Bool, true, false, _&&_}
 use mathlib.Core.List.{List, [], _∷_, _++_}
 use lib.Dec.{eqb}
 use mir.Syntax.{w8}
@@ -63,6 +63,10 @@ andThen (refused c p) k = refused c p
 unfoldable pub pick {ℓ} : {A : Type ℓ} → Bool → A → A → A
 pick true x y = x
 pick false x y = y
+
+pub both : (a b : Bool) → (a && b) ≡ true → (a ≡ true) × (b ≡ true)
+both true b e = (refl, e)
+both false b e = absurd (let z : _≡_ {A = ℕ} 0 1 = cc in omega arith)
 
 -- "to the last byte": 13 where bytes are left over
 unfoldable pub whole : {A : Type 0} → ℕ → Answer A → Answer A

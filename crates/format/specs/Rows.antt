@@ -142,7 +142,7 @@ row-long a i n s at e h =
     rw (o .is, read-long a i n (drop at s) (o .x) (o .n) (o .is), ← o .ends)
 
 -- n numbers of k bytes are there where k times n bytes are, and else they are cut
-pub record Row (k i n : ℕ) (t : List ℕ) : Type 0 where
+pub record NumberRow (k i n : ℕ) (t : List ℕ) : Type 0 where
   pub xs : List ℕ
   pub is : eachRead (λ j. number k) i n t ≡ got xs (k * n)
   pub long : length xs ≡ n
@@ -160,12 +160,12 @@ module _ (k : ℕ) where
   unfolding number numberRead pick
   number-cut t h = rw (lt-leb k (length t) h)
 
-  row-more : (i n : ℕ) (t : List ℕ) → k ≤ length t → k + k * n ≡ k * suc n → Row k (i + 1) n (drop k t) → Row k i (suc n) t
+  row-more : (i n : ℕ) (t : List ℕ) → k ≤ length t → k + k * n ≡ k * suc n → NumberRow k (i + 1) n (drop k t) → NumberRow k i (suc n) t
   unfolding eachRead andThen mapped shift
   row-more i n t h e r =
       record { xs = value (take k t) ∷ r .xs; is = rw (number-there t h, r .is) (ap (λ (m : ℕ). got (value (take k t) ∷ r .xs) m) e); long = ap suc (r .long) }
 
-  pub row-there : (i n : ℕ) (t : List ℕ) → k * n ≤ length t → Row k i n t
+  pub row-there : (i n : ℕ) (t : List ℕ) → k * n ≤ length t → NumberRow k i n t
   unfolding eachRead
   row-there i zero t h = record { xs = []; is = rw mul-zero; long = refl }
   row-there i (suc n) t h = row-more i n t (omega (arith, mul-suc k n)) (omega (arith, mul-suc k n)) (row-there (i + 1) n (drop k t) (omega (arith, length-drop k t, mul-suc k n)))
@@ -187,9 +187,9 @@ module _ (k : ℕ) where
       ]
 
   module _ (s : List ℕ) (p n : ℕ) where
-    pub row-is : k * n ≤ length s - p → Got n (p + k * n) ≡ seen length (each (λ i. number k) 0 n) s p
+    pub number-row : k * n ≤ length s - p → Got n (p + k * n) ≡ seen length (each (λ i. number k) 0 n) s p
     unfolding seen each told
-    row-is h = let r = row-there 0 n (drop p s) (omega (arith, length-drop p s)) in rw (r .is, r .long)
+    number-row h = let r = row-there 0 n (drop p s) (omega (arith, length-drop p s)) in rw (r .is, r .long)
 
     pub row-no : length s - p < k * n → (q : ℕ) × (No Cut q ≡ seen length (each (λ i. number k) 0 n) s p)
     unfolding seen each told

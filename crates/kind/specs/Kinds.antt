@@ -106,8 +106,8 @@ thirty-five = refl
 -- ---- what a row tells
 
 -- a row is no fault
-pub apart : {B : Type 0} {r : Row} {k : Kind} {c : Fault} {q : ℕ} → r ≡ Is k → r ≡ No c q → B
-apart e h = absurd (let z : _≡_ {A = ℕ} 0 1 = cc in omega arith)
+pub row-or-fault : {B : Type 0} {r : Row} {k : Kind} {c : Fault} {q : ℕ} → r ≡ Is k → r ≡ No c q → B
+row-or-fault e h = absurd (let z : _≡_ {A = ℕ} 0 1 = cc in omega arith)
 
 -- the row of a product is the row of the table
 pub offered-is : (p : Product) (r : Row) {k : Kind} → offered p r ≡ Is k → r ≡ Is k
@@ -117,7 +117,7 @@ offered-is p (Is j) {k} e = go (inProduct p j) e
   where
     go : (b : Bool) → pick b (Is j) (No Fault.Foreign 0) ≡ Is k → Is j ≡ Is k
     go true h = h
-    go false h = apart h refl
+    go false h = row-or-fault h refl
 
 -- what the table lacks is Unknown, and what a product lacks is Foreign
 pub lacking : (rows : List (Kind × List ℕ)) (id : ℕ) {c : Fault} {q : ℕ} → rowIn rows id ≡ No c q → c ≡ Fault.Unknown
@@ -126,7 +126,7 @@ lacking [] id e = cc
 lacking ((k, ids) ∷ rows) id {c} {q} e = go (has ids id) (lacking rows id) e
   where
     go : (b : Bool) → (rowIn rows id ≡ No c q → c ≡ Fault.Unknown) → pick b (Is k) (rowIn rows id) ≡ No c q → c ≡ Fault.Unknown
-    go true f h = apart refl h
+    go true f h = row-or-fault refl h
     go false f h = f h
 
 pub foreign : (p : Product) (j : Kind) {c : Fault} {q : ℕ} → offered p (Is j) ≡ No c q → c ≡ Fault.Foreign
@@ -134,23 +134,10 @@ unfolding offered pick
 foreign p j {c} {q} e = go (inProduct p j) e
   where
     go : (b : Bool) → pick b (Is j) (No Fault.Foreign 0) ≡ No c q → c ≡ Fault.Foreign
-    go true h = apart refl h
+    go true h = row-or-fault refl h
     go false h = cc
 
 -- ---- as the code finds it
-
-module _ (p : Product) (id : ℕ) {r : Row} where
-  pub row-no : {c : Fault} {q : ℕ} → r ≡ rowIn kinds id → r ≡ No c q → r ≡ rowOf p id
-  unfolding rowOf offered
-  row-no e h = rw (← e, h)
-
-  pub row-yes : {out : Row} {k : Kind} {b : Bool} → r ≡ rowIn kinds id → r ≡ Is k → b ≡ inProduct p k → b ≡ true → out ≡ Is k → out ≡ rowOf p id
-  unfolding rowOf offered pick
-  row-yes e h f t o = rw (← e, h, ← f, t) o
-
-  pub row-foreign : {k : Kind} {b : Bool} → r ≡ rowIn kinds id → r ≡ Is k → b ≡ inProduct p k → b ≡ false → No Fault.Foreign 0 ≡ rowOf p id
-  unfolding rowOf offered pick
-  row-foreign e h f t = rw (← e, h, ← f, t)
 
 module _ (edition id : ℕ) {e : Edition} where
   pub kind-in : {p : Product} {r : Row} → e ≡ editionOf edition → e ≡ Edition.Of p → r ≡ rowOf p id → r ≡ kindOf edition id

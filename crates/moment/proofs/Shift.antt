@@ -12,7 +12,7 @@ use lib.Pow.{pow-pos, pow-add, pow-mono, pow-lt}
 use borrow.Author.Tests.{le-leb, lt-leb}
 use Rattle.format.specs.Format.{pick}
 use Rattle.date.specs.Double.{negative, exponent, digits, scaled, size, day, bound, accepted}
-use Rattle.moment.specs.Moment.{origin-is, whole, dayIn}
+use Rattle.moment.specs.Moment.{origin-is, wholeDays, dayIn}
 
 -- ---- a day is 2 ^ k times the weight of a digit
 day-pos : 0 < day
@@ -100,14 +100,14 @@ cut-fraction q e p x a b h = rw (sym a, sym b, shifted-one (1075 - e) (omega ari
 below : (bits : ℕ) → accepted bits ≡ true → size bits < bound (negative bits) * day
 below bits a = ltb→lt (size bits) (bound (negative bits) * day) (and-r (ltb (exponent bits) 2047) (ltb (size bits) (bound (negative bits) * day)) (subst T (sym a) tt))
 
-whole-lt : (bits : ℕ) → accepted bits ≡ true → whole bits < bound (negative bits)
+whole-lt : (bits : ℕ) → accepted bits ≡ true → wholeDays bits < bound (negative bits)
 whole-lt bits a = div-lt-iff-lt-mul day-pos .1 (below bits a)
 
 bound-le : (s : Bool) → bound s ≤ 2958466
 bound-le true = lit≤ tt
 bound-le false = lit≤ tt
 
-pub whole-small : (bits : ℕ) → accepted bits ≡ true → whole bits < 2958466
+pub whole-small : (bits : ℕ) → accepted bits ≡ true → wholeDays bits < 2958466
 whole-small bits a = lt-of-lt-of-le (whole-lt bits a) (bound-le (negative bits))
 
 big : (e t : ℕ) → 1045 ≤ e → 2 ^ 22 * day ≤ scaled e t
@@ -122,13 +122,13 @@ exponent-most bits a =
     lt-of-not-le (λ h. not-le-of-lt (below bits a) (le-trans (mul-le-mul-right day (le-trans (bound-le (negative bits)) (lit≤ tt))) (big (exponent bits) (digits bits) h)))
 
 -- ---- the day
-pub whole-before : (bits : ℕ) → accepted bits ≡ true → 2 ^ 63 ≤ bits → whole bits < 657435
-whole-before bits a h = subst (λ (s : Bool). whole bits < bound s) (le-leb (2 ^ 63) bits h) (whole-lt bits a)
+pub whole-before : (bits : ℕ) → accepted bits ≡ true → 2 ^ 63 ≤ bits → wholeDays bits < 657435
+whole-before bits a h = subst (λ (s : Bool). wholeDays bits < bound s) (le-leb (2 ^ 63) bits h) (whole-lt bits a)
 
-pub day-before : (bits w : ℕ) → w ≡ whole bits → 2 ^ 63 ≤ bits → 657434 - w ≡ dayIn bits
+pub day-before : (bits w : ℕ) → w ≡ wholeDays bits → 2 ^ 63 ≤ bits → 657434 - w ≡ dayIn bits
 unfolding dayIn pick
 day-before bits w e h = rw (le-leb (2 ^ 63) bits h, origin-is, e)
 
-pub day-after : (bits w : ℕ) → w ≡ whole bits → bits < 2 ^ 63 → 657434 + w ≡ dayIn bits
+pub day-after : (bits w : ℕ) → w ≡ wholeDays bits → bits < 2 ^ 63 → 657434 + w ≡ dayIn bits
 unfolding dayIn pick
 day-after bits w e h = rw (lt-leb (2 ^ 63) bits h, origin-is, e)

@@ -21,11 +21,11 @@ unfolding origin dayOf yearsDays monthsDays leap
 origin-is = refl
 
 -- "The whole part, cut toward zero, gives the day"
-abbrev pub whole : ℕ → ℕ
-whole bits = size bits / day
+abbrev pub wholeDays : ℕ → ℕ
+wholeDays bits = size bits / day
 
 unfoldable pub dayIn : ℕ → ℕ
-dayIn bits = pick (negative bits) (origin - whole bits) (origin + whole bits)
+dayIn bits = pick (negative bits) (origin - wholeDays bits) (origin + wholeDays bits)
 
 -- "The size of the fraction, times 86,400 and cut down to a whole number, gives the second of the day"
 unfoldable pub secondIn : ℕ → ℕ

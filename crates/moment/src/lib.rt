@@ -5,7 +5,7 @@ ghost use mathlib.Core.Bool.{true};
 ghost use mathlib.Core.Path.{_≡_};
 ghost use Prim.Native.Nat.{_+_, _-_, _%_, _^_, _<_};
 ghost use Rattle.date.specs.Double.{exponent, digits, accepted};
-ghost use Rattle.moment.specs.Moment.{whole, dayIn, secondIn, Says};
+ghost use Rattle.moment.specs.Moment.{wholeDays, dayIn, secondIn, Says};
 
 // A civil date and the second of its day, or a fault and its place.
 pub enum Moment {
@@ -29,7 +29,7 @@ fn digits_of(bits: u64) -> u64
 // The whole days of a date, without its sign.
 fn whole_of(bits: u64) -> u64
     requires { ⌜ accepted bits ≡ true ⌝ }
-    ensures { λ r. ⌜ r ≡ whole bits ⌝ }
+    ensures { λ r. ⌜ r ≡ wholeDays bits ⌝ }
 {
     let e = exponent_of(bits);
     if e < 1023 {

@@ -6,8 +6,8 @@ use kind::Product;
 use kind::Role;
 use kind::Row;
 ghost use mathlib.Core.Path.{_≡_};
-ghost use Rattle.kind.specs.Kinds.{inDesk, inProduct, rowIn, kinds, rowOf, kindOf};
-ghost use Rattle.row.specs.Lines.{rowAt, lineOf};
+ghost use Rattle.kind.specs.Kinds.{rowIn, kinds, rowOf, kindOf};
+ghost use Rattle.row.specs.Lines.{rowAt, digitOf, lineOf, lacksAt};
 
 // The rows of the sixteen identifiers from 16 n on, a digit of four bits each, the lowest first: by `row_at`.
 fn line_of(n: u64) -> u64
@@ -47,36 +47,21 @@ fn row_at(digit: u64) -> Row
     }
 }
 
-// The row of an identifier among the 35.
-fn row_of(identifier: u64) -> Row
-    ensures { λ r. ⌜ r ≡ rowIn kinds identifier ⌝ }
+// The digit of an identifier; 0 where it is not among the 35.
+fn digit_of(identifier: u64) -> u64
+    ensures { λ r. ⌜ r ≡ digitOf (rowIn kinds identifier) ⌝ }
 {
     let line = line_of(identifier / 16);
-    row_at((line >> (4 * (identifier % 16))) % 16)
+    (line >> (4 * (identifier % 16))) % 16
 }
 
-fn in_desk(kind: Kind) -> bool
-    ensures { λ r. ⌜ r ≡ inDesk kind ⌝ }
-{
-    match kind {
-        Kind::Marker => true,
-        Kind::Simple(role) => match role {
-            Role::Condition => true,
-            Role::Action => true,
-            Role::Exception => false,
-        },
-        Kind::WordList => false,
-        Kind::Size(_) => false,
-        Kind::Dates(_) => false,
-    }
-}
-
-fn in_product(product: Product, kind: Kind) -> bool
-    ensures { λ r. ⌜ r ≡ inProduct product kind ⌝ }
+// Whether a product lacks the row of a digit: Desk has the first three.
+fn lacks(product: Product, digit: u64) -> bool
+    ensures { λ r. ⌜ r ≡ lacksAt product digit ⌝ }
 {
     match product {
-        Product::Desk => in_desk(kind),
-        Product::Studio => true,
+        Product::Desk => 3 < digit,
+        Product::Studio => false,
     }
 }
 
@@ -84,14 +69,11 @@ fn in_product(product: Product, kind: Kind) -> bool
 pub fn row_for(product: Product, identifier: u64) -> Row
     ensures { λ r. ⌜ r ≡ rowOf product identifier ⌝ }
 {
-    let row = row_of(identifier);
-    let Row::Is(kind) = row else {
-        return row;
-    };
-    if in_product(product, kind) {
-        return row;
+    let digit = digit_of(identifier);
+    if lacks(product, digit) {
+        return Row::No(Fault::Foreign, 0);
     }
-    Row::No(Fault::Foreign, 0)
+    row_at(digit)
 }
 
 // The row of an identifier in an edition.

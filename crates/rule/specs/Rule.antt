@@ -155,10 +155,5 @@ pub rule-fits : (p : Product) (i : ℕ) (r : Rule) → rule p i .Fit r → (1 �
 unfolding rule fields fromUnknown2 fromUnknown4 body sized counted count seq via judged pair measured
 rule-fits p i r f = within-is 1 64 (elementsIn r) (f .0 .1 .1 .1 .1 .1 .1 .1 .0 .0 .1 .0 .0 .0 .1)
 
--- and its head and its elements fit
-pub body-fits : (p : Product) (i : ℕ) (r : Rule) → rule p i .Fit r → head i .Fit tt × AllFit (placed p) 0 (r .elements)
-unfolding rule fields fromUnknown2 fromUnknown4 body sized counted count seq via judged pair measured _then_ each
-body-fits p i r f = let b = f .0 .1 .1 .1 .1 .1 .1 .1 .0 .0 .1 .0 .0 .1 in (b .0 .0, b .0 .1 .1)
-
 pub rule-small : (p : Product) (i : ℕ) (s : List ℕ) (at : ℕ) {r : Read} {v m : ℕ} → Bytes s → r ≡ seen elementsIn (rule p i) s at → r ≡ Got v m → v ≤ 64
 rule-small p i s at bs e h = let o = seen-fits elementsIn (rule p i) s at bs e h in rw (o .1 .1) (rule-fits p i (o .0) (o .1 .0) .1)

@@ -24,15 +24,15 @@ use Rattle.runs.specs.Fits.{Every, every-append, every-take, every-drop,
 use Rattle.runs.specs.Given.{text-fits, word-fits, given-fits, word-more}
 
 -- what callers can hand over: bytes, and numbers of 32 bits
-abbrev pub Small : Fields → Type 0
-Small f = (f .signature < 256 ^ 4) × ((f .unknown2 < 256 ^ 4) × ((f .unknown3 < 256 ^ 4) × ((f .unknown4 < 256 ^ 4) × (f .unknown5 < 256 ^ 4))))
+abbrev pub HandedFields : Fields → Type 0
+HandedFields f = (f .signature < 256 ^ 4) × ((f .unknown2 < 256 ^ 4) × ((f .unknown3 < 256 ^ 4) × ((f .unknown4 < 256 ^ 4) × (f .unknown5 < 256 ^ 4))))
 
 unfoldable pub Handed : Edit → Type 0
 Handed (switch k on) = Unit {0}
 Handed (rename k name) = Bytes name
 Handed (remove k) = Unit {0}
 Handed (insert k second j) = Bytes second
-Handed (addRule name f id s) = Bytes name × (Small f × ((id < 256 ^ 4) × Bytes s))
+Handed (addRule name f id s) = Bytes name × (HandedFields f × ((id < 256 ^ 4) × Bytes s))
 Handed (addElement id s) = (id < 256 ^ 4) × Bytes s
 Handed (addWord word) = Bytes word
 
@@ -136,7 +136,7 @@ module _ (p : Product) (r : Rule) (f : Fits p r) where
       let v = ap length e in
       holding-fits (take k (r .elements) ++ (x ∷ [])) (all-append (placed p) 0 (take k (r .elements)) (x ∷ []) (all-take (placed p) 0 k (r .elements) (f .elements)) (one-placed p _ x w)) (omega (arith, n)) (omega (arith, n, m, t, v, f .few))
 
-new-fits : (p : Product) (us : List ℕ) (f : Fields) (x : Element) → Small f → string .Fit us → element p .Fit x → Fits p (newRule us f x)
+new-fits : (p : Product) (us : List ℕ) (f : Fields) (x : Element) → HandedFields f → string .Fit us → element p .Fit x → Fits p (newRule us f x)
 new-fits p us f x s g w = record { signature = s .0; name = g; unknown2 = s .1 .0; unknown3 = s .1 .1 .0; unknown4 = s .1 .1 .1 .0; unknown5 = s .1 .1 .1 .1; some = omega arith; few = omega arith; elements = one-placed p 0 x w }
 
 -- ---- every edit

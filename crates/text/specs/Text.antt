@@ -14,7 +14,7 @@ use Rattle.format.specs.Join.{pair, pairWrite, via, judged, seq, atStart, nothi
 use Rattle.format.specs.Number.{number, fixed, spelt, length-spelt}
 use Rattle.format.specs.Each.{each, eachWrite, counted, listed}
 use Rattle.format.specs.Seen.{seen, itself, none, told-is, via-is, pair-stop, pair-go, pick-yes, yes-eq, start-got, start-no}
-use Rattle.format.specs.Rows.{listed-is, row-is, row-no}
+use Rattle.format.specs.Rows.{listed-is, number-row, row-no}
 
 -- "a length byte": FF "means that a 2-byte length follows"; "254 units or fewer use the short form and 255 the long one"
 unfoldable pub extended : ℕ → Format (Unit {0})
@@ -57,7 +57,7 @@ module _ (s : List ℕ) (at : ℕ) {l : Read} where
 
   pub string-is : {n p w : ℕ} → l ≡ seen itself stringLength s at → l ≡ Got n p → w ≡ length s - p → n ≤ w / 2 → Got n (p + 2 * n) ≡ seen length string s at
   unfolding string
-  string-is {n} {p} e h f r = start-got length _ s at {m = p + 2 * n} (units (Got n (p + 2 * n)) e h (row-is 2 s p n (omega arith))) refl
+  string-is {n} {p} e h f r = start-got length _ s at {m = p + 2 * n} (units (Got n (p + 2 * n)) e h (number-row 2 s p n (omega arith))) refl
 
   pub string-cut : {n p w : ℕ} → l ≡ seen itself stringLength s at → l ≡ Got n p → w ≡ length s - p → w / 2 < n → No Cut at ≡ seen length string s at
   unfolding string

@@ -58,10 +58,10 @@ fn places(s: &[u8], k: usize) -> usize
     requires { ⌜ 1 ≤ k ⌝ }
     ensures { λ r. ⌜ r ≡ length (now (s .entry)) + 1 - k ⌝ }
 {
-    if s.len() < k {
-        return 0;
+    if k <= s.len() {
+        return s.len() - k + 1;
     }
-    s.len() - k + 1
+    0
 }
 
 // A number of 1, 2, 3, 4 or 8 bytes.

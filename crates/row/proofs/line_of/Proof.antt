@@ -1,56 +1,56 @@
 use Rattle.kind.specs.Kinds.{rowIn, has}
 use Rattle.format.specs.Format.{pick}
 use borrow.Author.Needs.{needs}
-use Rattle.row.specs.Lines.{lineOf, digits, digitOf, Off, AllOff, off-line}
+use Rattle.row.specs.Lines.{lineOf, digitsFrom, digitOf, Off, AllOff, off-line}
 use Rattle.row.proofs.line_of.Statement.{statement}
 use Rattle.row.proofs.line_of.Tie as tie
 
 returns : tie.Need-returns
-unfolding lineOf digits digitOf rowIn has pick
+unfolding lineOf digitsFrom digitOf rowIn has pick
 returns c = simp (c .match .keys1)
 
 returns-2 : tie.Need-returns-2
-unfolding lineOf digits digitOf rowIn has pick
+unfolding lineOf digitsFrom digitOf rowIn has pick
 returns-2 c = simp (c .match .keys2)
 
 returns-3 : tie.Need-returns-3
-unfolding lineOf digits digitOf rowIn has pick
+unfolding lineOf digitsFrom digitOf rowIn has pick
 returns-3 c = simp (c .match .keys3)
 
 returns-4 : tie.Need-returns-4
-unfolding lineOf digits digitOf rowIn has pick
+unfolding lineOf digitsFrom digitOf rowIn has pick
 returns-4 c = simp (c .match .keys4)
 
 returns-5 : tie.Need-returns-5
-unfolding lineOf digits digitOf rowIn has pick
+unfolding lineOf digitsFrom digitOf rowIn has pick
 returns-5 c = simp (c .match .keys5)
 
 returns-6 : tie.Need-returns-6
-unfolding lineOf digits digitOf rowIn has pick
+unfolding lineOf digitsFrom digitOf rowIn has pick
 returns-6 c = simp (c .match .keys6)
 
 returns-7 : tie.Need-returns-7
-unfolding lineOf digits digitOf rowIn has pick
+unfolding lineOf digitsFrom digitOf rowIn has pick
 returns-7 c = simp (c .match .keys7)
 
 returns-8 : tie.Need-returns-8
-unfolding lineOf digits digitOf rowIn has pick
+unfolding lineOf digitsFrom digitOf rowIn has pick
 returns-8 c = simp (c .match .keys8)
 
 returns-9 : tie.Need-returns-9
-unfolding lineOf digits digitOf rowIn has pick
+unfolding lineOf digitsFrom digitOf rowIn has pick
 returns-9 c = simp (c .match .keys9)
 
 returns-10 : tie.Need-returns-10
-unfolding lineOf digits digitOf rowIn has pick
+unfolding lineOf digitsFrom digitOf rowIn has pick
 returns-10 c = simp (c .match .keys10)
 
 returns-11 : tie.Need-returns-11
-unfolding lineOf digits digitOf rowIn has pick
+unfolding lineOf digitsFrom digitOf rowIn has pick
 returns-11 c = simp (c .match .keys11)
 
 returns-12 : tie.Need-returns-12
-unfolding lineOf digits digitOf rowIn has pick
+unfolding lineOf digitsFrom digitOf rowIn has pick
 returns-12 c = simp (c .match .keys12)
 
 returns-13 : tie.Need-returns-13
