@@ -24,8 +24,7 @@ use Rattle.rule.specs.Rule.{Rule, elementsIn}
 use Rattle.deck.specs.declared.Scan.{Scan}
 use Rattle.deck.specs.declared.Scan.the-variants as Scan
 use Rattle.deck.specs.Deck.{readAs, readBy, readDeck, answered, scanned}
-use Rattle.deck.specs.Written.{written}
-use Rattle.plan.specs.Edit.{Edit, switch, rename, remove, insert, addRule, addElement, addWord, Plan, become, refuse, refuseGiven, edited, room, inRoom, plan, planBy, planned, says}
+use Rattle.plan.specs.Edit.{Edit, switch, rename, remove, insert, addRule, addElement, addWord, Plan, become, refuse, refuseGiven, planned, says}
 use Rattle.plan.specs.Found.{Edits}
 use Rattle.tables.specs.Tables.{ruleWidth, elementWidth, inTables, tabled, readSays}
 use Rattle.view.specs.declared.View.{View}
@@ -36,9 +35,9 @@ use Rattle.view.specs.Asked.{asked, askedBy, askedOf, askedFirst}
 use Rattle.view.specs.View.{nameAt, nameView, viewSays}
 use Rattle.view.specs.Word.{wordAt, elementWord, ruleWord, wordView}
 use Rattle.view.specs.Fixed.{fixedAt, fixedFields, fieldsSay}
-use Rattle.bounds.specs.Refused.{Only, Own, OfGiven, only-edited}
+use Rattle.bounds.specs.Refused.{Only, NotLarge, Own, Judges, OfGiven, only-planned}
 use Rattle.bounds.specs.Places.{Lent}
-use Rattle.bounds.specs.Listed.{Numbers, among, Lists, among-first, among-later, numbers, exactly}
+use Rattle.bounds.specs.Listed.{Numbers, allowed, Lists, allowed-first, allowed-later, numbers, exactly}
 use Rattle.bounds.specs.Faulty.{deck-faulty, edition-listed, faulty-listed, elementNumbers, element-listed}
 
 -- "The deck check is a read without tables, so without 14"
@@ -74,7 +73,7 @@ abbrev pub readNumbers : List Numbers
 readNumbers = numbers 1 13 60000 ∷ numbers 14 14 1 ∷ []
 
 pub read-listed : (edition rules elements : ℕ) (s : List ℕ) → Lists readNumbers (readSays (editionOf edition) rules elements s)
-unfolding inTables pick among within
+unfolding inTables pick allowed within
 read-listed edition rules elements s = by (editionOf edition)
   where
     read : (p : Product) (a : Answer (List Rule)) → readAs p s ≡ a → Lists readNumbers (tabled rules elements a)
@@ -95,7 +94,7 @@ abbrev pub viewNumbers : ℕ → List Numbers
 viewNumbers last = numbers 1 13 60000 ∷ numbers 16 16 last ∷ []
 
 absent-listed : (last q : ℕ) → q ≤ last → q ≤ 2 → Lists (viewNumbers last) (Outcome.No Fault.Absent q)
-absent-listed last q f g = (among-later (numbers 1 13 60000) (numbers 16 16 last ∷ []) 16 q (among-first 16 16 last [] 16 q (omega arith) (omega arith) f), g)
+absent-listed last q f g = (allowed-later (numbers 1 13 60000) (numbers 16 16 last ∷ []) 16 q (allowed-first 16 16 last [] 16 q (omega arith) (omega arith) f), g)
 
 -- Q says it of what is answered
 module _ {W : Type 0} (no : Fault → ℕ → W) (f : Product → ℕ → Rule → W) (last : ℕ) (Q : W → Type 0) (says-no : (c : Fault) (q : ℕ) → Lists (viewNumbers last) (Outcome.No c q) → Q (no c q)) (there : (p : Product) (at : ℕ) (r : Rule) → Q (f p at r)) where
@@ -164,19 +163,23 @@ OwnListed e c q = Lists (editNumbers e) (Outcome.No c q)
 abbrev GivenListed : Edit → Fault → ℕ → Type 0
 GivenListed e c q = Lists (editNumbers e) (Outcome.Given c q)
 
-own-listed : (e : Edit) → Own (OwnListed e) e
-unfolding among within
-own-listed (switch k on) = (refl, omega arith)
-own-listed (rename k name) = ((refl, omega arith), (refl, refl))
-own-listed (remove k) = (refl, omega arith)
-own-listed (insert k second j) = ((refl, omega arith), (refl, omega arith))
-own-listed (addRule name f id s) = (refl, refl)
-own-listed (addElement id s) = ((refl, refl), (refl, refl))
-own-listed (addWord word) = ((refl, refl), ((refl, refl), (refl, refl)))
+own-listed : (e : Edit) → Own (OwnListed e)
+unfolding allowed within
+own-listed e = record { edition = (refl, refl); stated = (refl, refl); rules = (refl, refl); large = (refl, refl); room = (refl, refl) }
+
+judges-listed : (e : Edit) → Judges (OwnListed e) e
+unfolding allowed within
+judges-listed (switch k on) = (refl, omega arith)
+judges-listed (rename k name) = ((refl, omega arith), (refl, refl))
+judges-listed (remove k) = (refl, omega arith)
+judges-listed (insert k second j) = ((refl, omega arith), (refl, omega arith))
+judges-listed (addRule name f id s) = (refl, refl)
+judges-listed (addElement id s) = ((refl, refl), (refl, refl))
+judges-listed (addWord word) = ((refl, refl), ((refl, refl), (refl, refl)))
 
 -- what is among its own numbers is among an edit's
-later : (e : Edit) (n q : ℕ) → among (ownNumbers e) n q ≡ true → among (editNumbers e) n q ≡ true
-later e n q f = among-later (numbers 1 13 60000) (laterNumbers e) n q (among-later (exactly 15 0) (numbers 18 20 0 ∷ ownNumbers e) n q (among-later (numbers 18 20 0) (ownNumbers e) n q f))
+own-allowed : (e : Edit) (n q : ℕ) → allowed (ownNumbers e) n q ≡ true → allowed (editNumbers e) n q ≡ true
+own-allowed e n q f = allowed-later (numbers 1 13 60000) (laterNumbers e) n q (allowed-later (exactly 15 0) (numbers 18 20 0 ∷ ownNumbers e) n q (allowed-later (numbers 18 20 0) (ownNumbers e) n q f))
 
 given-listed : (p : Product) (e : Edit) → Lent e → OfGiven (GivenListed e) p e
 unfolding Lent
@@ -186,37 +189,17 @@ given-listed p (remove k) h = tt
 given-listed p (insert k second j) h = λ c q e.
     let f = deck-faulty p second c q e in
     let w = within-is 2 13 (numberOf c) (f .0) in
-    (later (insert k second j) (numberOf c + 32) q (among-first 34 45 60000 (numbers 16 16 1 ∷ []) (numberOf c + 32) q (omega arith) (omega arith) (f .1 .0)), f .1 .1)
-given-listed p (addRule name g id s) h = λ c q e. let f = element-listed p id s h c q e in (later (addRule name g id s) (numberOf c + 32) q (among-later (exactly 17 0) elementNumbers (numberOf c + 32) q (f .0)), f .1)
-given-listed p (addElement id s) h = λ c q e. let f = element-listed p id s h c q e in (later (addElement id s) (numberOf c + 32) q (among-later (numbers 21 22 0) elementNumbers (numberOf c + 32) q (f .0)), f .1)
+    (own-allowed (insert k second j) (numberOf c + 32) q (allowed-first 34 45 60000 (numbers 16 16 1 ∷ []) (numberOf c + 32) q (omega arith) (omega arith) (f .1 .0)), f .1 .1)
+given-listed p (addRule name g id s) h = λ c q e. let f = element-listed p id s h c q e in (own-allowed (addRule name g id s) (numberOf c + 32) q (allowed-later (exactly 17 0) elementNumbers (numberOf c + 32) q (f .0)), f .1)
+given-listed p (addElement id s) h = λ c q e. let f = element-listed p id s h c q e in (own-allowed (addElement id s) (numberOf c + 32) q (allowed-later (numbers 21 22 0) elementNumbers (numberOf c + 32) q (f .0)), f .1)
 given-listed p (addWord word) h = tt
 
-plan-listed : (edition n : ℕ) (d : List ℕ) (e : Edit) → Lent e → Lists (editNumbers e) (says (planned edition n d e))
-unfolding planned room says pick among within
-plan-listed edition n d e h = by (editionOf edition)
-  where
-    room-listed : (x : Plan) → Only (OwnListed e) (GivenListed e) x → Lists (editNumbers e) (says (inRoom (length d) x))
-    room-listed (become rs) f = few (leb (length rs) 256) (leb (length (written rs)) 60000) (leb (length (written rs)) (length d))
-      where
-        few : (a b c : Bool) → Lists (editNumbers e) (says (pick a (pick b (pick c (become rs) (refuse Fault.Room 0)) (refuse Fault.Large 0)) (refuse Fault.Rules 0)))
-        few true true true = tt
-        few true true false = (refl, refl)
-        few true false c = (refl, refl)
-        few false b c = (refl, refl)
-    room-listed (refuse c q) f = f
-    room-listed (refuseGiven c q) f = f
-
-    read : (p : Product) (a : Answer (List Rule)) → readAs p (take n d) ≡ a → Lists (editNumbers e) (says (plan p (length d) e a))
-    read p (got rs m) f = room-listed (edited p e rs) (only-edited (OwnListed e) (GivenListed e) p e rs (own-listed e) (given-listed p e h))
-    read p (refused c q) f = faulty-listed (laterNumbers e) c q (deck-faulty p (take n d) c q f)
-
-    stated : (p : Product) (t : Bool) → Lists (editNumbers e) (says (pick t (plan p (length d) e (readAs p (take n d))) (refuse Fault.Stated 0)))
-    stated p true = read p (readAs p (take n d)) refl
-    stated p false = (refl, refl)
-
-    by : (o : Edition) → Lists (editNumbers e) (says (planBy o n d e))
-    by (Edition.Of p) = stated p (leb n (length d))
-    by Edition.Unknown = (refl, refl)
-
 pub edit-listed : (edition n : ℕ) (e : Edit) (d : List ℕ) {r : Outcome} {x : List ℕ} → Lent e → Edits edition n e d r x → Lists (editNumbers e) r
-edit-listed edition n e d h f = rw (f .0) (plan-listed edition n d e h)
+unfolding says
+edit-listed edition n e d h f =
+    rw (f .0) (go (planned edition n d e) (only-planned (OwnListed e) (GivenListed e) (own-listed e) edition n d e (judges-listed e) (λ p i. ((λ c q z. faulty-listed (laterNumbers e) c q (deck-faulty p (take n d) c q z)), given-listed p e h))))
+  where
+    go : (x : Plan) → Only NotLarge (OwnListed e) (GivenListed e) x → Lists (editNumbers e) (says x)
+    go (become rs) f = tt
+    go (refuse c q) f = f
+    go (refuseGiven c q) f = f

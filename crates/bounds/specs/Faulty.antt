@@ -28,47 +28,47 @@ use Rattle.plan.specs.Given.{given, givenBy, withData}
 use Rattle.bounds.specs.Data.{most, row-refuses, given-end, whole-end}
 use Rattle.bounds.specs.Faults.{For, Gives, for-refused, for-mapped, for-shift, for-whole, gives-each, gives-count, gives-data, gives-rule}
 use Rattle.bounds.specs.Refused.{RefusedAs}
-use Rattle.bounds.specs.Listed.{Listed, Numbers, among, Lists, among-first, numbers}
+use Rattle.bounds.specs.Listed.{Listed, Numbers, allowed, Lists, allowed-first, numbers}
 
 -- what a deck is refused for: 2 to 13, at a place of the table where it is not past 60,000
 abbrev Told : Fault → ℕ → Type 0
 Told c q = (within 2 13 (numberOf c) ≡ true) × (q ≤ 60000 → Listed c q)
 
 -- an answer is refused, if it is, as P says of fault and place
-unfoldable Puts : {A : Type 0} → (Fault → ℕ → Type 0) → Answer A → Type 0
-Puts P (got x n) = Unit {0}
-Puts P (refused c q) = P c q
+unfoldable Stops : {A : Type 0} → (Fault → ℕ → Type 0) → Answer A → Type 0
+Stops P (got x n) = Unit {0}
+Stops P (refused c q) = P c q
 
 -- at whatever place
-puts-for : {A : Type 0} (P : Fault → ℕ → Type 0) (a : Answer A) → For (λ c. (q : ℕ) → P c q) a → Puts P a
-unfolding Puts For
-puts-for P (got x n) f = tt
-puts-for P (refused c q) f = f q
+stops-for : {A : Type 0} (P : Fault → ℕ → Type 0) (a : Answer A) → For (λ c. (q : ℕ) → P c q) a → Stops P a
+unfolding Stops For
+stops-for P (got x n) f = tt
+stops-for P (refused c q) f = f q
 
 -- a constant of k bytes is refused at its start, what stands behind it k bytes further on
-puts-fixed : {B : Type 0} (P : Fault → ℕ → Type 0) (k v : ℕ) (c : Fault) (b : Format B) (s : List ℕ) → P Fault.Cut 0 → P c 0 → Puts (λ d q. P d (k + q)) (b .read (drop k s)) → Puts P ((fixed k v c then b) .read s)
-unfolding Puts _then_ seq via pair pairRead andThen mapped shift fixed judged judgeOf judge number numberRead pick
-puts-fixed {B} P k v c b s cut wrong f = long (leb k (length s))
+stops-fixed : {B : Type 0} (P : Fault → ℕ → Type 0) (k v : ℕ) (c : Fault) (b : Format B) (s : List ℕ) → P Fault.Cut 0 → P c 0 → Stops (λ d q. P d (k + q)) (b .read (drop k s)) → Stops P ((fixed k v c then b) .read s)
+unfolding Stops _then_ seq via pair pairRead andThen mapped shift fixed judged judgeOf judge number numberRead pick
+stops-fixed {B} P k v c b s cut wrong f = long (leb k (length s))
   where
-    on : (a : Answer B) → Puts (λ d q. P d (k + q)) a → Puts P (mapped (λ (p : Unit {0} × B). p .1) (shift k (mapped (λ y. (tt, y)) a)))
+    on : (a : Answer B) → Stops (λ d q. P d (k + q)) a → Stops P (mapped (λ (p : Unit {0} × B). p .1) (shift k (mapped (λ y. (tt, y)) a)))
     on (got y n) h = tt
     on (refused d q) h = h
 
-    same : (t : Bool) → Puts P (mapped (λ (p : Unit {0} × B). p .1) (andThen (mapped (λ x. tt) (judge c t (value (take k s)) k)) (λ x n. mapped (λ y. (x, y)) (b .read (drop n s)))))
+    same : (t : Bool) → Stops P (mapped (λ (p : Unit {0} × B). p .1) (andThen (mapped (λ x. tt) (judge c t (value (take k s)) k)) (λ x n. mapped (λ y. (x, y)) (b .read (drop n s)))))
     same true = on (b .read (drop k s)) f
     same false = wrong
 
-    long : (t : Bool) → Puts P (mapped (λ (p : Unit {0} × B). p .1) (andThen (mapped (λ x. tt) (judgeOf (λ y. eqb y v) c (pick t (got (value (take k s)) k) (refused Fault.Cut 0)))) (λ x n. mapped (λ y. (x, y)) (b .read (drop n s)))))
+    long : (t : Bool) → Stops P (mapped (λ (p : Unit {0} × B). p .1) (andThen (mapped (λ x. tt) (judgeOf (λ y. eqb y v) c (pick t (got (value (take k s)) k) (refused Fault.Cut 0)))) (λ x n. mapped (λ y. (x, y)) (b .read (drop n s)))))
     long true = same (eqb (value (take k s)) v)
     long false = cut
 
 -- 4 at 0 and 5 at 3, and nothing behind the header gives them
-header-told : (s : List ℕ) → Puts Told (header .read s)
+header-told : (s : List ℕ) → Stops Told (header .read s)
 unfolding header bytes mark value within Gives
 header-told s =
     let count : For (λ c. (q : ℕ) → Told c (3 + (2 + q))) (ruleCount .read (drop 2 (drop 3 s))) = gives-count (λ c. (q : ℕ) → Told c (3 + (2 + q))) (λ q. (refl, λ h. h)) (λ q. (refl, λ h. h)) (λ q. (refl, λ h. h)) (λ q. (refl, λ h. h)) (λ q. (refl, λ h. h)) 2 0 256 (drop 2 (drop 3 s)) in
-    puts-fixed Told 3 _ Fault.Mark _ s (refl, λ h. h) (refl, λ h. refl)
-    (puts-fixed (λ c q. Told c (3 + q)) 2 1 Fault.Version ruleCount (drop 3 s) (refl, λ h. h) (refl, λ h. refl) (puts-for (λ c q. Told c (3 + (2 + q))) _ count))
+    stops-fixed Told 3 _ Fault.Mark _ s (refl, λ h. h) (refl, λ h. refl)
+    (stops-fixed (λ c q. Told c (3 + q)) 2 1 Fault.Version ruleCount (drop 3 s) (refl, λ h. h) (refl, λ h. refl) (stops-for (λ c q. Told c (3 + (2 + q))) _ count))
 
 -- at whatever place
 abbrev Always : Fault → Type 0
@@ -78,19 +78,19 @@ rules-told : (p : Product) (n : ℕ) → Gives Always (each (rule p) 0 n)
 unfolding within
 rules-told p n = gives-each Always (rule p) (gives-rule Always (λ q. (refl, λ h. h)) (λ q. (refl, λ h. h)) (λ q. (refl, λ h. h)) (λ q. (refl, λ h. h)) (λ q. (refl, λ h. h)) (λ q. (refl, λ h. h)) (λ q. (refl, λ h. h)) (λ q. (refl, λ h. h)) p) 0 n
 
-deck-told : (p : Product) (s : List ℕ) → Puts Told (deck p .read s)
-unfolding deck counted via pair pairRead andThen mapped Gives Puts
+deck-told : (p : Product) (s : List ℕ) → Stops Told (deck p .read s)
+unfolding deck counted via pair pairRead andThen mapped Gives Stops
 deck-told p s = go (header .read s) (header-told s)
   where
-    go : (a : Answer ℕ) → Puts Told a → Puts Told (mapped (λ (w : ℕ × List Rule). w .1) (andThen a (λ n k. mapped (λ xs. (n, xs)) (each (rule p) 0 n .read (drop k s)))))
-    go (got n k) h = puts-for Told _ (for-mapped Always _ _ (for-shift Always k _ (for-mapped Always _ _ (rules-told p n (drop k s)))))
+    go : (a : Answer ℕ) → Stops Told a → Stops Told (mapped (λ (w : ℕ × List Rule). w .1) (andThen a (λ n k. mapped (λ xs. (n, xs)) (each (rule p) 0 n .read (drop k s)))))
+    go (got n k) h = stops-for Told _ (for-mapped Always _ _ (for-shift Always k _ (for-mapped Always _ _ (rules-told p n (drop k s)))))
     go (refused c q) h = h
 
-whole-told : {A : Type 0} (n : ℕ) (a : Answer A) → Puts Told a → Puts Told (whole n a)
-unfolding Puts whole pick within
+whole-told : {A : Type 0} (n : ℕ) (a : Answer A) → Stops Told a → Stops Told (whole n a)
+unfolding Stops whole pick within
 whole-told n (got x m) h = go (eqb m n)
   where
-    go : (b : Bool) → Puts Told (pick b (got x m) (refused Fault.Over m))
+    go : (b : Bool) → Stops Told (pick b (got x m) (refused Fault.Over m))
     go true = tt
     go false = (refl, λ h. h)
 whole-told n (refused c q) h = h
@@ -100,10 +100,10 @@ abbrev pub Faulty : Fault → ℕ → Type 0
 Faulty c q = (within 2 13 (numberOf c) ≡ true) × ((q ≤ 60000) × Listed c q)
 
 pub deck-faulty : (p : Product) (s : List ℕ) → RefusedAs Faulty (readAs p s)
-unfolding readAs Puts endOf pick within
+unfolding readAs Stops endOf pick within
 deck-faulty p s c q = long (leb (length s) 60000) refl
   where
-    read : (a : Answer (List Rule)) → Puts Told a → endOf a ≤ 60000 → a ≡ refused c q → Faulty c q
+    read : (a : Answer (List Rule)) → Stops Told a → endOf a ≤ 60000 → a ≡ refused c q → Faulty c q
     read (got rs m) f h e = apart e
     read (refused d o) f h e = let ec : c ≡ d = cc in let eq : q ≡ o = cc in rw (ec, eq) (f .0, (h, f .1 h))
 
@@ -118,10 +118,10 @@ deck-faulty p s c q = long (leb (length s) 60000) refl
 -- a call that begins with a deck gives 1 to 13, and then its own
 module _ (rows : List Numbers) where
   pub edition-listed : Lists (numbers 1 13 60000 ∷ rows) (Outcome.No Fault.Edition 0)
-  edition-listed = (among-first 1 13 60000 rows 1 0 (omega arith) (omega arith) (omega arith), refl)
+  edition-listed = (allowed-first 1 13 60000 rows 1 0 (omega arith) (omega arith) (omega arith), refl)
 
   pub faulty-listed : (c : Fault) (q : ℕ) → Faulty c q → Lists (numbers 1 13 60000 ∷ rows) (Outcome.No c q)
-  faulty-listed c q f = let w = within-is 2 13 (numberOf c) (f .0) in (among-first 1 13 60000 rows (numberOf c) q (omega arith) (omega arith) (f .1 .0), f .1 .1)
+  faulty-listed c q f = let w = within-is 2 13 (numberOf c) (f .0) in (allowed-first 1 13 60000 rows (numberOf c) q (omega arith) (omega arith) (f .1 .0), f .1 .1)
 
 -- ---- what a given element is refused for: "41 and 42 have place 0; the data may give 35, 38, 39, 40, 43, 45"
 abbrev pub elementNumbers : List Numbers
@@ -134,11 +134,11 @@ abbrev Near : Fault → Type 0
 Near c = (q : ℕ) → q ≤ most → ElementListed c q
 
 data-listed : (k : Kind) → Gives Near (dataOf k)
-unfolding among within
+unfolding allowed within
 data-listed k = gives-data Near (λ q h. (rw (le-leb q most h), omega arith)) (λ q h. (rw (le-leb q most h), omega arith)) (λ q h. (rw (le-leb q most h), omega arith)) (λ q h. (rw (le-leb q most h), omega arith)) (λ q h. (rw (le-leb q most h), omega arith)) k
 
 pub element-listed : (p : Product) (id : ℕ) (s : List ℕ) → Bytes s → RefusedAs ElementListed (given p id s)
-unfolding given Gives among within endOf
+unfolding given Gives allowed within endOf
 element-listed p id s b c q e = go (rowOf p id) refl e
   where
     go : (r : Row) → rowOf p id ≡ r → givenBy r id s ≡ refused c q → ElementListed c q

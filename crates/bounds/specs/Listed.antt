@@ -63,16 +63,16 @@ pub data Numbers : Type 0 where
   numbers : ℕ → ℕ → ℕ → Numbers
   exactly : ℕ → ℕ → Numbers
 
-unfoldable pub among : List Numbers → ℕ → ℕ → Bool
-among [] n q = false
-among (numbers low high last ∷ rows) n q = (within low high n && leb q last) || among rows n q
-among (exactly m o ∷ rows) n q = (eqb n m && eqb q o) || among rows n q
+unfoldable pub allowed : List Numbers → ℕ → ℕ → Bool
+allowed [] n q = false
+allowed (numbers low high last ∷ rows) n q = (within low high n && leb q last) || allowed rows n q
+allowed (exactly m o ∷ rows) n q = (eqb n m && eqb q o) || allowed rows n q
 
 -- an answer, if it is a refusal, is one of the table: "34 to 45: 2 to 13 plus 32, the same fault", at a place "there"
 abbrev pub Lists : List Numbers → Outcome → Type 0
 Lists rows (Outcome.Done n) = Unit {0}
-Lists rows (Outcome.No c q) = (among rows (numberOf c) q ≡ true) × Listed c q
-Lists rows (Outcome.Given c q) = (among rows (numberOf c + 32) q ≡ true) × Listed c q
+Lists rows (Outcome.No c q) = (allowed rows (numberOf c) q ≡ true) × Listed c q
+Lists rows (Outcome.Given c q) = (allowed rows (numberOf c + 32) q ≡ true) × Listed c q
 
 -- ---- laws
 
@@ -80,18 +80,18 @@ within-true : (low high n : ℕ) → low ≤ n → n ≤ high → within low hig
 unfolding within
 within-true low high n f g = rw (le-leb low n f, le-leb n high g)
 
-pub among-first : (low high last : ℕ) (rows : List Numbers) (n q : ℕ) → low ≤ n → n ≤ high → q ≤ last → among (numbers low high last ∷ rows) n q ≡ true
-unfolding among
-among-first low high last rows n q f g h = rw (within-true low high n f g, le-leb q last h)
+pub allowed-first : (low high last : ℕ) (rows : List Numbers) (n q : ℕ) → low ≤ n → n ≤ high → q ≤ last → allowed (numbers low high last ∷ rows) n q ≡ true
+unfolding allowed
+allowed-first low high last rows n q f g h = rw (within-true low high n f g, le-leb q last h)
 
-pub among-later : (row : Numbers) (rows : List Numbers) (n q : ℕ) → among rows n q ≡ true → among (row ∷ rows) n q ≡ true
-unfolding among
-among-later row rows n q e = by row
+pub allowed-later : (row : Numbers) (rows : List Numbers) (n q : ℕ) → allowed rows n q ≡ true → allowed (row ∷ rows) n q ≡ true
+unfolding allowed
+allowed-later row rows n q e = by row
   where
-    go : (b : Bool) → (b || among rows n q) ≡ true
+    go : (b : Bool) → (b || allowed rows n q) ≡ true
     go true = refl
     go false = e
 
-    by : (row : Numbers) → among (row ∷ rows) n q ≡ true
+    by : (row : Numbers) → allowed (row ∷ rows) n q ≡ true
     by (numbers low high last) = go (within low high n && leb q last)
     by (exactly m o) = go (eqb n m && eqb q o)

@@ -6,7 +6,6 @@ use mathlib.Core.Bool.{Bool, true, false}
 use mathlib.Core.List.{List, [], _∷_}
 use lib.Dec.{leb}
 use lib.ListN.{length, take, drop}
-use borrow.Author.Tests.{leb-true}
 use Rattle.format.specs.declared.Fault.{Fault}
 use Rattle.format.specs.declared.Fault.the-variants as Fault
 use Rattle.format.specs.declared.Outcome.{Outcome}
@@ -22,9 +21,8 @@ use Rattle.element.specs.Data.{wordsOf}
 use Rattle.element.specs.Element.{Element}
 use Rattle.rule.specs.Rule.{Rule, elementsIn}
 use Rattle.deck.specs.Deck.{readAs, readBy, readDeck, answered, place-small, read-writes-back}
-use Rattle.deck.specs.Written.{written}
 use Rattle.plan.specs.Given.{given}
-use Rattle.plan.specs.Edit.{Edit, switch, rename, remove, insert, addRule, addElement, addWord, Plan, become, refuse, refuseGiven, edited, room, inRoom, plan, planBy, planned, says}
+use Rattle.plan.specs.Edit.{Edit, switch, rename, remove, insert, addRule, addElement, addWord, Plan, become, refuse, refuseGiven, planned, says}
 use Rattle.tables.specs.Tables.{ruleWidth, elementWidth, inTables, tabled, readSays}
 use Rattle.view.specs.declared.View.{View}
 use Rattle.view.specs.declared.View.the-variants.{At, No}
@@ -32,7 +30,7 @@ use Rattle.view.specs.Asked.{asked, askedBy, askedOf, askedFirst}
 use Rattle.view.specs.View.{Inside, nameAt, nameView, viewSays}
 use Rattle.view.specs.Word.{wordAt, elementWord, ruleWord, wordView}
 use Rattle.bounds.specs.Data.{most, given-end}
-use Rattle.bounds.specs.Refused.{Only, Own, RefusedAs, OfGiven, only-edited}
+use Rattle.bounds.specs.Refused.{Only, NotLarge, Own, Judges, RefusedAs, OfGiven, only-planned}
 
 -- what is lent to an edit beside its buffer, and is read, is bytes
 unfoldable pub Lent : Edit → Type 0
@@ -52,14 +50,17 @@ read-small edition p s e b = rw e at (place-small edition s b)
 abbrev Small : Fault → ℕ → Type 0
 Small c q = q ≤ 60000
 
-small-own : (e : Edit) → Own Small e
-small-own (switch k on) = omega arith
-small-own (rename k name) = (omega arith, omega arith)
-small-own (remove k) = omega arith
-small-own (insert k second j) = (omega arith, omega arith)
-small-own (addRule name f id s) = omega arith
-small-own (addElement id s) = (omega arith, omega arith)
-small-own (addWord word) = (omega arith, (omega arith, omega arith))
+small-own : Own Small
+small-own = record { edition = omega arith; stated = omega arith; rules = omega arith; large = omega arith; room = omega arith }
+
+small-judges : (e : Edit) → Judges Small e
+small-judges (switch k on) = omega arith
+small-judges (rename k name) = (omega arith, omega arith)
+small-judges (remove k) = omega arith
+small-judges (insert k second j) = (omega arith, omega arith)
+small-judges (addRule name f id s) = omega arith
+small-judges (addElement id s) = (omega arith, omega arith)
+small-judges (addWord word) = (omega arith, (omega arith, omega arith))
 
 module _ (edition : ℕ) (p : Product) (ed : editionOf edition ≡ Edition.Of p) where
   element-small : (id : ℕ) (s : List ℕ) → Bytes s → RefusedAs Small (given p id s)
@@ -76,33 +77,14 @@ module _ (edition : ℕ) (p : Product) (ed : editionOf edition ≡ Edition.Of p)
   given-small (addElement id s) h = element-small id s h
   given-small (addWord word) h = tt
 
-room-small : (cap : ℕ) (q : Plan) → Only Small Small q → placeOf (says (inRoom cap q)) ≤ 60000
-unfolding room says pick
-room-small cap (become rs) f = few (leb (length rs) 256) (leb (length (written rs)) 60000) refl (leb (length (written rs)) cap)
-  where
-    few : (a b : Bool) → leb (length (written rs)) 60000 ≡ b → (c : Bool) → placeOf (says (pick a (pick b (pick c (become rs) (refuse Fault.Room 0)) (refuse Fault.Large 0)) (refuse Fault.Rules 0))) ≤ 60000
-    few true true e true = leb-true (length (written rs)) 60000 e
-    few true true e false = omega arith
-    few true false e c = omega arith
-    few false b e c = omega arith
-room-small cap (refuse c q) f = f
-room-small cap (refuseGiven c q) f = f
-
 pub plan-small : (edition n : ℕ) (d : List ℕ) (e : Edit) → Bytes d → Lent e → placeOf (says (planned edition n d e)) ≤ 60000
-unfolding planned says pick
-plan-small edition n d e b h = by (editionOf edition) refl
+unfolding says
+plan-small edition n d e b h = go (planned edition n d e) (only-planned Small Small small-own edition n d e (small-judges e) (λ p f. ((λ c q z. rw z at (read-small edition p (take n d) f (bytes-take n d b))), given-small edition p f e h)))
   where
-    read : (p : Product) (a : Answer (List Rule)) → editionOf edition ≡ Edition.Of p → placeOf (answered a) ≤ 60000 → placeOf (says (plan p (length d) e a)) ≤ 60000
-    read p (got rs m) f g = room-small (length d) (edited p e rs) (only-edited Small Small p e rs (small-own e) (given-small edition p f e h))
-    read p (refused c q) f g = g
-
-    stated : (p : Product) (t : Bool) → editionOf edition ≡ Edition.Of p → placeOf (says (pick t (plan p (length d) e (readAs p (take n d))) (refuse Fault.Stated 0))) ≤ 60000
-    stated p true f = read p (readAs p (take n d)) f (read-small edition p (take n d) f (bytes-take n d b))
-    stated p false f = omega arith
-
-    by : (o : Edition) → editionOf edition ≡ o → placeOf (says (planBy o n d e)) ≤ 60000
-    by (Edition.Of p) f = stated p (leb n (length d)) f
-    by Edition.Unknown f = omega arith
+    go : (x : Plan) → Only NotLarge Small Small x → placeOf (says x) ≤ 60000
+    go (become rs) f = f
+    go (refuse c q) f = f
+    go (refuseGiven c q) f = f
 
 -- ---- nor is one that a view answers
 

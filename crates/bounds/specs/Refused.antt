@@ -1,34 +1,55 @@
 -- What an edit can be refused for, from what its parts can: N says which faults are its own, and at which places, G which are of what it is given.
-use Prim.Native.Nat.{ℕ}
+use Prim.Native.Nat.{ℕ, _≤_}
 use mathlib.Core.Path.{_≡_, refl}
 use mathlib.Core.Bool.{Bool, true, false}
 use mathlib.Core.List.{List, [], _∷_}
+use lib.Dec.{leb}
+use lib.ListN.{length, take}
+use borrow.Author.Tests.{leb-true}
 use Rattle.format.specs.declared.Fault.{Fault}
 use Rattle.format.specs.declared.Fault.the-variants as Fault
 use Rattle.format.specs.Format.{Answer, got, refused, pick}
 use Rattle.kind.specs.declared.Product.{Product}
+use Rattle.kind.specs.declared.Edition.{Edition}
+use Rattle.kind.specs.declared.Edition.the-variants as Edition
+use Rattle.kind.specs.Kinds.{editionOf}
 use Rattle.element.specs.Data.{plain, words, sizes, span}
 use Rattle.element.specs.Element.{Element}
 use Rattle.rule.specs.Rule.{Rule}
 use Rattle.deck.specs.Deck.{readAs}
+use Rattle.deck.specs.Written.{written}
 use Rattle.plan.specs.Given.{given}
-use Rattle.plan.specs.Edit.{Edit, switch, rename, remove, insert, addRule, addElement, addWord, Plan, become, refuse, refuseGiven, atRule, atCopy, atSecond, atLast, atList, unlessFull, ifText, atGiven, edited}
+use Rattle.plan.specs.Edit.{Edit, switch, rename, remove, insert, addRule, addElement, addWord, Plan, become, refuse, refuseGiven, atRule, atCopy, atSecond, atLast, atList, unlessFull, ifText, atGiven, edited, room, inRoom, plan, planBy, planned}
 
--- a plan that is refused, if it is, as they say
-abbrev pub Only : (Fault → ℕ → Type 0) → (Fault → ℕ → Type 0) → Plan → Type 0
-Only N G (become rs) = Unit {0}
-Only N G (refuse c q) = N c q
-Only N G (refuseGiven c q) = G c q
+-- a plan that is refused, if it is, as they say; and what is known of the list that it becomes
+abbrev pub Only : (List Rule → Type 0) → (Fault → ℕ → Type 0) → (Fault → ℕ → Type 0) → Plan → Type 0
+Only B N G (become rs) = B rs
+Only B N G (refuse c q) = N c q
+Only B N G (refuseGiven c q) = G c q
 
--- what an edit judges itself, before 18, 19 and 20
-abbrev pub Own : (Fault → ℕ → Type 0) → Edit → Type 0
-Own N (switch k on) = N Fault.Absent 0
-Own N (rename k name) = N Fault.Absent 0 × N Fault.Text 0
-Own N (remove k) = N Fault.Absent 0
-Own N (insert k second j) = N Fault.Absent 0 × N Fault.Absent 1
-Own N (addRule name f id s) = N Fault.Text 0
-Own N (addElement id s) = N Fault.Last 0 × N Fault.Full 0
-Own N (addWord word) = N Fault.Last 0 × (N Fault.Full 0 × N Fault.Text 0)
+abbrev Any : List Rule → Type 0
+Any rs = Unit {0}
+
+abbrev pub NotLarge : List Rule → Type 0
+NotLarge rs = length (written rs) ≤ 60000
+
+-- what every edit judges itself, beside its deck: 1, 15, 18, 19, 20
+pub record Own (N : Fault → ℕ → Type 0) : Type 0 where
+  pub edition : N Fault.Edition 0
+  pub stated : N Fault.Stated 0
+  pub rules : N Fault.Rules 0
+  pub large : N Fault.Large 0
+  pub room : N Fault.Room 0
+
+-- and what each judges: 16, 22, 21, 17
+abbrev pub Judges : (Fault → ℕ → Type 0) → Edit → Type 0
+Judges N (switch k on) = N Fault.Absent 0
+Judges N (rename k name) = N Fault.Absent 0 × N Fault.Text 0
+Judges N (remove k) = N Fault.Absent 0
+Judges N (insert k second j) = N Fault.Absent 0 × N Fault.Absent 1
+Judges N (addRule name f id s) = N Fault.Text 0
+Judges N (addElement id s) = N Fault.Last 0 × N Fault.Full 0
+Judges N (addWord word) = N Fault.Last 0 × (N Fault.Full 0 × N Fault.Text 0)
 
 -- what it is given is refused as G says
 abbrev pub RefusedAs : {A : Type 0} → (Fault → ℕ → Type 0) → Answer A → Type 0
@@ -44,35 +65,35 @@ OfGiven G p (addElement id s) = RefusedAs G (given p id s)
 OfGiven G p (addWord word) = Unit {0}
 
 module _ (N G : Fault → ℕ → Type 0) where
-  only-pick : (b : Bool) (q : Plan) (c : Fault) (at : ℕ) → N c at → Only N G q → Only N G (pick b q (refuse c at))
+  only-pick : (b : Bool) (q : Plan) (c : Fault) (at : ℕ) → N c at → Only Any N G q → Only Any N G (pick b q (refuse c at))
   unfolding pick
   only-pick true q c at h f = f
   only-pick false q c at h f = h
 
-  only-text : (s : List ℕ) (q : Plan) → N Fault.Text 0 → Only N G q → Only N G (ifText s q)
+  only-text : (s : List ℕ) (q : Plan) → N Fault.Text 0 → Only Any N G q → Only Any N G (ifText s q)
   unfolding ifText
   only-text s q h f = only-pick _ q Fault.Text 0 h f
 
-  only-full : (n : ℕ) (q : Plan) → N Fault.Full 0 → Only N G q → Only N G (unlessFull n q)
+  only-full : (n : ℕ) (q : Plan) → N Fault.Full 0 → Only Any N G q → Only Any N G (unlessFull n q)
   unfolding unlessFull
   only-full n q h f = only-pick _ q Fault.Full 0 h f
 
-  only-rule : (ys : List Rule) (f : Rule → List Rule → Plan) → N Fault.Absent 0 → ((r : Rule) (later : List Rule) → Only N G (f r later)) → Only N G (atRule ys f)
+  only-rule : (ys : List Rule) (f : Rule → List Rule → Plan) → N Fault.Absent 0 → ((r : Rule) (later : List Rule) → Only Any N G (f r later)) → Only Any N G (atRule ys f)
   unfolding atRule
   only-rule [] f h g = h
   only-rule (r ∷ later) f h g = g r later
 
-  only-copy : (ys : List Rule) (f : Rule → Plan) → N Fault.Absent 1 → ((r : Rule) → Only N G (f r)) → Only N G (atCopy ys f)
+  only-copy : (ys : List Rule) (f : Rule → Plan) → N Fault.Absent 1 → ((r : Rule) → Only Any N G (f r)) → Only Any N G (atCopy ys f)
   unfolding atCopy
   only-copy [] f h g = h
   only-copy (r ∷ later) f h g = g r
 
-  only-last : (ys : List Rule) (f : Rule → Plan) → N Fault.Last 0 → ((r : Rule) → Only N G (f r)) → Only N G (atLast ys f)
+  only-last : (ys : List Rule) (f : Rule → Plan) → N Fault.Last 0 → ((r : Rule) → Only Any N G (f r)) → Only Any N G (atLast ys f)
   unfolding atLast
   only-last [] f h g = h
   only-last (r ∷ later) f h g = g r
 
-  only-list : (ys : List Element) (f : ℕ → List (List ℕ) → Plan) → N Fault.Last 0 → ((id : ℕ) (ws : List (List ℕ)) → Only N G (f id ws)) → Only N G (atList ys f)
+  only-list : (ys : List Element) (f : ℕ → List (List ℕ) → Plan) → N Fault.Last 0 → ((id : ℕ) (ws : List (List ℕ)) → Only Any N G (f id ws)) → Only Any N G (atList ys f)
   unfolding atList
   only-list [] f h g = h
   only-list ((id, plain) ∷ later) f h g = h
@@ -80,22 +101,50 @@ module _ (N G : Fault → ℕ → Type 0) where
   only-list ((id, sizes a b) ∷ later) f h g = h
   only-list ((id, span a b) ∷ later) f h g = h
 
-  only-given : (a : Answer Element) (f : Element → Plan) → RefusedAs G a → ((x : Element) → Only N G (f x)) → Only N G (atGiven a f)
+  only-given : (a : Answer Element) (f : Element → Plan) → RefusedAs G a → ((x : Element) → Only Any N G (f x)) → Only Any N G (atGiven a f)
   unfolding atGiven
   only-given (got x n) f h g = g x
   only-given (refused c q) f h g = h c q refl
 
-  only-second : (a : Answer (List Rule)) (f : List Rule → Plan) → RefusedAs G a → ((qs : List Rule) → Only N G (f qs)) → Only N G (atSecond a f)
+  only-second : (a : Answer (List Rule)) (f : List Rule → Plan) → RefusedAs G a → ((qs : List Rule) → Only Any N G (f qs)) → Only Any N G (atSecond a f)
   unfolding atSecond
   only-second (got qs n) f h g = g qs
   only-second (refused c q) f h g = h c q refl
 
-  pub only-edited : (p : Product) (e : Edit) (rs : List Rule) → Own N e → OfGiven G p e → Only N G (edited p e rs)
+  only-edited : (p : Product) (e : Edit) (rs : List Rule) → Judges N e → OfGiven G p e → Only Any N G (edited p e rs)
   unfolding edited
-  only-edited p (switch k on) rs o h = only-rule _ _ o (λ r later. tt)
-  only-edited p (rename k name) rs o h = only-rule _ _ (o .0) (λ r later. only-text name _ (o .1) tt)
-  only-edited p (remove k) rs o h = only-rule _ _ o (λ r later. tt)
-  only-edited p (insert k second j) rs o h = only-second _ _ h (λ qs. only-pick _ _ Fault.Absent 0 (o .0) (only-copy _ _ (o .1) (λ q. tt)))
-  only-edited p (addRule name f id s) rs o h = only-text name _ o (only-given _ _ h (λ x. tt))
-  only-edited p (addElement id s) rs o h = only-last _ _ (o .0) (λ r. only-full _ _ (o .1) (only-given _ _ h (λ x. tt)))
-  only-edited p (addWord word) rs o h = only-last _ _ (o .0) (λ r. only-list _ _ (o .0) (λ id ws. only-full _ _ (o .1 .0) (only-text word _ (o .1 .1) tt)))
+  only-edited p (switch k on) rs j h = only-rule _ _ j (λ r later. tt)
+  only-edited p (rename k name) rs j h = only-rule _ _ (j .0) (λ r later. only-text name _ (j .1) tt)
+  only-edited p (remove k) rs j h = only-rule _ _ j (λ r later. tt)
+  only-edited p (insert k second i) rs j h = only-second _ _ h (λ qs. only-pick _ _ Fault.Absent 0 (j .0) (only-copy _ _ (j .1) (λ q. tt)))
+  only-edited p (addRule name f id s) rs j h = only-text name _ j (only-given _ _ h (λ x. tt))
+  only-edited p (addElement id s) rs j h = only-last _ _ (j .0) (λ r. only-full _ _ (j .1) (only-given _ _ h (λ x. tt)))
+  only-edited p (addWord word) rs j h = only-last _ _ (j .0) (λ r. only-list _ _ (j .0) (λ id ws. only-full _ _ (j .1 .0) (only-text word _ (j .1 .1) tt)))
+
+  only-room : Own N → (cap : ℕ) (q : Plan) → Only Any N G q → Only NotLarge N G (inRoom cap q)
+  unfolding room pick
+  only-room o cap (become rs) f = few (leb (length rs) 256) (leb (length (written rs)) 60000) refl (leb (length (written rs)) cap)
+    where
+      few : (a b : Bool) → leb (length (written rs)) 60000 ≡ b → (c : Bool) → Only NotLarge N G (pick a (pick b (pick c (become rs) (refuse Fault.Room 0)) (refuse Fault.Large 0)) (refuse Fault.Rules 0))
+      few true true e true = leb-true (length (written rs)) 60000 e
+      few true true e false = o .room
+      few true false e c = o .large
+      few false b e c = o .rules
+  only-room o cap (refuse c q) f = f
+  only-room o cap (refuseGiven c q) f = f
+
+  pub only-planned : Own N → (edition n : ℕ) (d : List ℕ) (e : Edit) → Judges N e → ((p : Product) → editionOf edition ≡ Edition.Of p → RefusedAs N (readAs p (take n d)) × OfGiven G p e) → Only NotLarge N G (planned edition n d e)
+  unfolding planned pick
+  only-planned o edition n d e j w = by (editionOf edition) refl
+    where
+      read : (p : Product) (a : Answer (List Rule)) → RefusedAs N a × OfGiven G p e → Only NotLarge N G (plan p (length d) e a)
+      read p (got rs m) f = only-room o (length d) (edited p e rs) (only-edited p e rs j (f .1))
+      read p (refused c q) f = f .0 c q refl
+
+      stated : (p : Product) (t : Bool) → editionOf edition ≡ Edition.Of p → Only NotLarge N G (pick t (plan p (length d) e (readAs p (take n d))) (refuse Fault.Stated 0))
+      stated p true f = read p (readAs p (take n d)) (w p f)
+      stated p false f = o .stated
+
+      by : (x : Edition) → editionOf edition ≡ x → Only NotLarge N G (planBy x n d e)
+      by (Edition.Of p) f = stated p (leb n (length d)) f
+      by Edition.Unknown f = o .edition

@@ -43,7 +43,7 @@ use Rattle.plan.specs.Found.{Edits}
 use Rattle.start.specs.Start.{startSays}
 use Rattle.bounds.specs.Data.{row-refuses}
 use Rattle.bounds.specs.Places.{Lent}
-use Rattle.bounds.specs.Listed.{Numbers, numbers, exactly, among, among-later, Lists}
+use Rattle.bounds.specs.Listed.{Numbers, numbers, exactly, allowed, allowed-later, Lists}
 use Rattle.bounds.specs.Faulty.{elementNumbers, element-listed}
 use Rattle.bounds.specs.Calls.{checkNumbers, check-listed, passSays, pass-listed, readNumbers, read-listed, viewNumbers, name-listed, word-listed, fixed-listed, editNumbers, edit-listed}
 
@@ -104,7 +104,7 @@ edit-refuses edition n e d h f = edit-listed edition n e d h f
 
 -- "it refuses only with 20"
 pub start-refuses : (cap : ℕ) → Lists (exactly 20 0 ∷ []) (startSays cap)
-unfolding pick among
+unfolding pick allowed
 start-refuses cap = go (leb 7 cap)
   where
     go : (b : Bool) → Lists (exactly 20 0 ∷ []) (pick b (Outcome.Done 7) (Outcome.No Fault.Room 0))
@@ -116,7 +116,7 @@ abbrev pub kindNumbers : List Numbers
 kindNumbers = exactly 1 0 ∷ exactly 9 0 ∷ exactly 10 0 ∷ []
 
 pub kind-refuses : (edition id : ℕ) → Lists kindNumbers (kindSays (kindOf edition id))
-unfolding kindOf rowBy among
+unfolding kindOf rowBy allowed
 kind-refuses edition id = by (editionOf edition)
   where
     row : (p : Product) (r : Row) → rowOf p id ≡ r → Lists kindNumbers (kindSays r)
@@ -129,7 +129,7 @@ kind-refuses edition id = by (editionOf edition)
 
 -- "a lone date answers 11 at 0"
 pub moment-refuses : (bits : ℕ) (m : Moment) → Says bits m → Lists (exactly 11 0 ∷ []) (momentSays m)
-unfolding among
+unfolding allowed
 moment-refuses bits (Moment.At c second) f = tt
 moment-refuses bits (Moment.No c q) f = rw (f .why, f .start) (refl, omega arith)
 
@@ -138,11 +138,11 @@ abbrev pub valueNumbers : List Numbers
 valueNumbers = exactly 1 0 ∷ elementNumbers
 
 pub value-refuses : (edition id : ℕ) (s : List ℕ) → Bytes s → Lists valueNumbers (valueSays (valueOf edition id s))
-unfolding valueOf fromKind given mapped among
+unfolding valueOf fromKind given mapped allowed
 value-refuses edition id s b = by (editionOf edition)
   where
     listed : (p : Product) (c : Fault) (q : ℕ) → given p id s ≡ refused c q → Lists valueNumbers (Outcome.Given c q)
-    listed p c q e = let f = element-listed p id s b c q e in (among-later (exactly 1 0) elementNumbers (numberOf c + 32) q (f .0), f .1)
+    listed p c q e = let f = element-listed p id s b c q e in (allowed-later (exactly 1 0) elementNumbers (numberOf c + 32) q (f .0), f .1)
 
     read : (p : Product) (k : Kind) (a : Answer Data) → given p id s ≡ mapped (withData id) a → Lists valueNumbers (valueSays (fromData k id a))
     read p k (got x n) e = tt
@@ -170,7 +170,7 @@ lacks-pick true x y f g = f
 lacks-pick false x y f g = g
 
 lacks-value : (v : Value) → Lacks (fromValue v)
-unfolding fromSpan among within
+unfolding fromSpan allowed within
 lacks-value Value.Marker = tt
 lacks-value (Value.Simple n) = tt
 lacks-value (Value.Words n) = (refl, omega arith)
@@ -178,7 +178,7 @@ lacks-value (Value.Size a b) = tt
 lacks-value (Value.Dates v) = lacks-pick _ _ _ (lacks-pick _ _ _ tt (refl, omega arith)) (refl, omega arith)
 
 pub put-refuses : (edition id : ℕ) (v : Value) (room : ℕ) → Lists putNumbers (putSays (putting edition id v room))
-unfolding putting planKind ifRoom putSays pick among within
+unfolding putting planKind ifRoom putSays pick allowed within
 put-refuses edition id v room = by (editionOf edition)
   where
     roomy : (b : Bool) (bs : List ℕ) → Lists putNumbers (putSays (pick b (write bs) (deny (Outcome.No Fault.Room 0))))
