@@ -3,11 +3,12 @@
 -- function without a `requires` is; what follows is said of the promises.
 use Prim.Native.Nat.{ℕ, _+_, _<_}
 use native.Mathlib.Omega.{arith}
-use mathlib.Core.Path.{_≡_, refl, ap, _∙_}
+use mathlib.Core.Path.{_≡_, refl, sym, ap, _∙_}
 use mathlib.Core.Bool.{Bool, true, false}
 use mathlib.Core.List.{List, [], _∷_}
 use lib.Dec.{leb}
 use lib.ListN.{length}
+use borrow.Author.Tests.{leb-false}
 use Rattle.format.specs.declared.Fault.{Fault}
 use Rattle.format.specs.declared.Fault.the-variants as Fault
 use Rattle.format.specs.declared.Outcome.{Outcome}
@@ -30,7 +31,7 @@ use Rattle.value.specs.declared.Value.{Value}
 use Rattle.value.specs.declared.Value.the-variants as Value
 use Rattle.value.specs.declared.Valued.the-variants as Valued
 use Rattle.value.specs.Value.{valueSays, fromData, fromKind, fromRow, fromEdition, valueOf}
-use Rattle.put.specs.Plan.{Fitted, holds, lacks, fromSpan, fromValue, isOf, fitted, write, deny, ifRoom, planData, planKind, planRow, planEdition, putting, putSays}
+use Rattle.put.specs.Plan.{Fitted, holds, lacks, fromSpan, fromValue, isOf, fitted, write, deny, ifRoom, planData, planKind, planRow, planEdition, putting, putSays, Putting, putLeaves}
 use Rattle.rule.specs.Rule.{Rule}
 use Rattle.deck.specs.Deck.{readAs, readDeck, answered, scanned}
 use Rattle.tables.specs.Tables.{tabled, readSays, rulesLeft, rulesAfter, elementsLeft, elementsAfter}
@@ -40,7 +41,7 @@ use Rattle.view.specs.Fixed.{fixedFields, fieldsSay}
 use Rattle.plan.specs.Edit.{Edit, Plan, become, refuse, refuseGiven, planned, says, leaves}
 use Rattle.plan.specs.Given.{given, givenBy, withData}
 use Rattle.plan.specs.Found.{Edits}
-use Rattle.start.specs.Start.{startSays}
+use Rattle.start.specs.Start.{startSays, startLeaves, start-none}
 use Rattle.bounds.specs.Data.{row-refuses}
 use Rattle.bounds.specs.Places.{Lent}
 use Rattle.bounds.specs.Listed.{Numbers, numbers, exactly, allowed, allowed-later, Lists}
@@ -74,6 +75,23 @@ read-as-found edition s rules elements = by (editionOf edition)
     by : (o : Edition) → 0 < codeOf (readSays o (length rules) (length elements) s) → (rulesAfter o s rules elements ≡ rules) × (elementsAfter o s rules elements ≡ elements)
     by (Edition.Of p) h = left (readAs p s) (tabled (length rules) (length elements) (readAs p s)) h p
     by Edition.Unknown h = (refl, refl)
+
+-- so does a refused value, and a refused start
+pub put-as-found : (edition id : ℕ) (v : Value) (buf : List ℕ) → 0 < codeOf (putSays (putting edition id v (length buf))) → putLeaves buf (putting edition id v (length buf)) ≡ buf
+unfolding putSays putLeaves
+put-as-found edition id v buf = go (putting edition id v (length buf))
+  where
+    go : (x : Putting) → 0 < codeOf (putSays x) → putLeaves buf x ≡ buf
+    go (write bs) h = absurd (omega arith)
+    go (deny o) h = refl
+
+pub start-as-found : (d : List ℕ) → 0 < codeOf (startSays (length d)) → startLeaves d ≡ d
+unfolding pick
+start-as-found d = go (leb 7 (length d)) refl
+  where
+    go : (b : Bool) → leb 7 (length d) ≡ b → 0 < codeOf (pick b (Outcome.Done 7) (Outcome.No Fault.Room 0)) → startLeaves d ≡ d
+    go true e h = absurd (omega arith)
+    go false e h = sym (start-none d (leb-false 7 (length d) e) .1)
 
 -- ---- "refuses by a number and a place from document 01's table": by the numbers that the call may give, at the places that the table has for them
 
