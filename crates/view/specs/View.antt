@@ -1,5 +1,6 @@
 -- Views, and the view of a name: document 01, "Tables and views".
 use Prim.Native.Nat.{ℕ, _+_, _-_, _*_, _/_, _≤_, _<_}
+use native.Mathlib.Nat.{zero-add}
 use native.Mathlib.Omega.{arith}
 use mathlib.Core.Path.{_≡_, sym, ap, _∙_}
 use mathlib.Core.List.{List, []}
@@ -30,6 +31,14 @@ nameView edition k s = asked No (λ p. nameAt) edition k s
 abbrev pub shown : View → List ℕ → List ℕ
 shown (At a n) s = take n (drop a s)
 shown (No c q) s = []
+
+abbrev pub shownFrom : View → ℕ
+shownFrom (At a n) = a
+shownFrom (No c q) = 0
+
+-- "parts of the caller's bytes": of the bytes xs, which lie at a place of memory, those that a view shows, and where they lie
+abbrev pub PartOf : View → List ℕ → ℕ × ℕ → List ℕ → ℕ × ℕ → Type 0
+PartOf v xs at ys from = (ys ≡ shown v xs) × (from ≡ (at .0, shownFrom v + at .1))
 
 -- "for a view its first byte"
 abbrev pub viewSays : View → Outcome
@@ -94,9 +103,15 @@ shown-at {a = a} {n = n} s h = let z : a + n - a ≡ n = omega arith in rw z (ap
 pub shown-no : {v : View} {c : Fault} {q : ℕ} (s : List ℕ) → v ≡ No c q → [] ≡ shown v s
 shown-no s h = ap (λ (x : View). shown x s) (sym h)
 
+pub from-at : {v : View} {a n : ℕ} (b o : ℕ) → v ≡ At a n → _≡_ {A = ℕ × ℕ} (b, a + o) (b, shownFrom v + o)
+from-at b o h = ap (λ (x : View). (b, shownFrom x + o)) (sym h)
+
+pub from-no : {v : View} {c : Fault} {q : ℕ} (b o : ℕ) → v ≡ No c q → _≡_ {A = ℕ × ℕ} (b, o) (b, shownFrom v + o)
+from-no b o h = rw (h, zero-add)
+
 -- and what is asked of it
-pub shown-as : {v w : View} {xs : List ℕ} (s : List ℕ) → xs ≡ shown v s → v ≡ w → xs ≡ shown w s
-shown-as s h e = h ∙ ap (λ (x : View). shown x s) e
+pub part-as : {v w : View} (xs : List ℕ) (at : ℕ × ℕ) {ys : List ℕ} {from : ℕ × ℕ} → PartOf v xs at ys from → v ≡ w → PartOf w xs at ys from
+part-as xs at h e = rw e at h
 
 pub placed-at : {v : View} {a n : ℕ} → v ≡ At a n → Outcome.Done a ≡ viewSays v
 placed-at h = ap viewSays (sym h)

@@ -10,6 +10,7 @@ use kind::Row;
 use rule::Fields;
 ghost use mathlib.Core.Path.{_≡_};
 ghost use lib.ListN.{length};
+ghost use denote.Ref.{ptr};
 ghost use Rattle.format.specs.Skip.{Skipped};
 ghost use Rattle.format.specs.Back.{Where};
 ghost use Rattle.text.specs.Text.{word};
@@ -19,7 +20,7 @@ ghost use Rattle.walk.specs.Elements.{Carries};
 ghost use Rattle.view.specs.Asked.{Finds, Tells};
 ghost use Rattle.view.specs.Fixed.{Number, fixedAt, fixedFields};
 ghost use Rattle.view.specs.Word.{Words, dataWord, ruleWord, wordView};
-ghost use Rattle.view.specs.View.{Units, Inside, nameAt, nameView, shown, viewSays};
+ghost use Rattle.view.specs.View.{Units, Inside, nameAt, nameView, PartOf, viewSays};
 
 // What a view answers: its first byte and how many bytes it is; or a fault with its place.
 pub enum View {
@@ -75,7 +76,7 @@ pub fn find_name(edition: u64, s: &[u8], k: u64) -> View
 // The part of a slice that a view within it shows; the empty part at the start where it is refused.
 fn part(s: &[u8], v: View) -> &[u8]
     requires { ⌜ Inside v (length (now s)) ⌝ }
-    ensures { λ r. ⌜ now r ≡ shown v (now (s .entry)) ⌝ }
+    ensures { λ r. ⌜ PartOf v (now (s .entry)) (ptr (s .entry)) (now r) (ptr r) ⌝ }
 {
     let View::At(a, n) = v else {
         return &s[..0];
@@ -96,7 +97,7 @@ pub fn place_of(v: View) -> Outcome
 
 // The name of rule k as a part of the deck's bytes.
 pub fn name(edition: u64, s: &[u8], k: u64) -> &[u8]
-    ensures { λ r. ⌜ now r ≡ shown (nameView edition k (now (s .entry))) (now (s .entry)) ⌝ }
+    ensures { λ r. ⌜ PartOf (nameView edition k (now (s .entry))) (now (s .entry)) (ptr (s .entry)) (now r) (ptr r) ⌝ }
 {
     let v = find_name(edition, s, k);
     part(s, v)
@@ -225,7 +226,7 @@ pub fn find_word(edition: u64, s: &[u8], k: u64, e: u64, w: u64) -> View
 
 // That word as a part of the deck's bytes.
 pub fn word(edition: u64, s: &[u8], k: u64, e: u64, w: u64) -> &[u8]
-    ensures { λ r. ⌜ now r ≡ shown (wordView edition k e w (now (s .entry))) (now (s .entry)) ⌝ }
+    ensures { λ r. ⌜ PartOf (wordView edition k e w (now (s .entry))) (now (s .entry)) (ptr (s .entry)) (now r) (ptr r) ⌝ }
 {
     let v = find_word(edition, s, k, e, w);
     part(s, v)
