@@ -13,8 +13,9 @@ use Rattle.format.specs.declared.Outcome.the-variants as Outcome
 use Rattle.format.specs.declared.Read.{Read}
 use Rattle.format.specs.declared.Read.the-variants as Read
 use Rattle.format.specs.Format.{refused, Bytes}
-use Rattle.format.specs.Number.{number, spelt, length-spelt}
-use Rattle.format.specs.Each.{eachWrite, each-append}
+use Rattle.format.specs.ReadWrite.{spelt, eachWrite}
+use Rattle.format.specs.Laws.ReadWrite.{length-spelt, each-append}
+use Rattle.format.specs.Combinators.{number}
 use Rattle.format.specs.Seen.{seen, itself, told, none, told-got, told-no}
 use Rattle.format.specs.Written.{Stands}
 use Rattle.format.specs.Back.{back-got, back-no}

@@ -14,8 +14,8 @@ use Rattle.format.specs.declared.Outcome.the-variants as Outcome
 use Rattle.format.specs.declared.Read.{Read}
 use Rattle.format.specs.declared.Read.the-variants as Read
 use Rattle.format.specs.Format.{refused, Bytes}
-use Rattle.format.specs.Number.{spelt, length-spelt, bit}
-use Rattle.format.specs.Each.{eachWrite}
+use Rattle.format.specs.ReadWrite.{spelt, bit, eachWrite}
+use Rattle.format.specs.Laws.ReadWrite.{length-spelt}
 use Rattle.format.specs.Seen.{told, none, told-got, told-no}
 use Rattle.text.specs.Text.{string}
 use Rattle.kind.specs.declared.Product.{Product}

@@ -10,9 +10,9 @@ use lib.ListN.{length, take, drop}
 use Rattle.format.specs.declared.Fault.{Fault}
 use Rattle.format.specs.declared.Fault.the-variants as Fault
 use Rattle.format.specs.Format.{Answer, got, refused, endOf, shift, mapped, andThen, pick, Format, Bytes, bytes-drop, end-mapped}
-use Rattle.format.specs.Join.{pair, pairRead, judged, judged-end, via, home-end, atStart, nothing, seq, _then_}
-use Rattle.format.specs.Number.{number, numberRead, value, fixed, flag, count}
-use Rattle.format.specs.Each.{each, eachRead, counted, listed}
+use Rattle.format.specs.ReadWrite.{pairRead, numberRead, value, eachRead}
+use Rattle.format.specs.Laws.ReadWrite.{judged-end, home-end}
+use Rattle.format.specs.Combinators.{pair, judged, via, atStart, nothing, seq, _then_, number, fixed, flag, count, each, counted, listed}
 
 unfoldable pub Bounded : {A : Type 0} → Format A → ℕ → Type 0
 Bounded a n = (s : List ℕ) → Bytes s → endOf (a .read s) ≤ n

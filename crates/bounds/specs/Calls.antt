@@ -12,7 +12,8 @@ use Rattle.format.specs.declared.Outcome.{Outcome}
 use Rattle.format.specs.declared.Outcome.the-variants as Outcome
 use Rattle.format.specs.Fault.{numberOf}
 use Rattle.format.specs.Format.{Answer, got, refused, pick}
-use Rattle.format.specs.Number.{within, within-is}
+use Rattle.format.specs.ReadWrite.{within}
+use Rattle.format.specs.Laws.ReadWrite.{within-is}
 use Rattle.format.specs.Rows.{total}
 use Rattle.kind.specs.declared.Product.{Product}
 use Rattle.kind.specs.declared.Edition.{Edition}

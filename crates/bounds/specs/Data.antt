@@ -10,8 +10,8 @@ use Rattle.format.specs.declared.Fault.{Fault}
 use Rattle.format.specs.declared.Fault.the-variants as Fault
 use Rattle.format.specs.Fault.{placeOf}
 use Rattle.format.specs.Format.{Answer, got, refused, endOf, whole, pick, Format, Bytes, end-mapped}
-use Rattle.format.specs.Join.{pair, judged, via, seq}
-use Rattle.format.specs.Number.{number, count, within-is, fixed, flag}
+use Rattle.format.specs.Laws.ReadWrite.{within-is}
+use Rattle.format.specs.Combinators.{pair, judged, via, seq, number, count, fixed, flag}
 use Rattle.text.specs.Text.{extended, stringLength, string, word}
 use Rattle.date.specs.Date.{date}
 use Rattle.kind.specs.declared.Product.{Product}

@@ -8,10 +8,8 @@ use lib.ListN.{length, take, drop}
 use Rattle.format.specs.declared.Fault.{Fault}
 use Rattle.format.specs.declared.Fault.the-variants as Fault
 use Rattle.format.specs.Format.{Answer, got, refused, shift, mapped, andThen, whole, pick, Format}
-use Rattle.format.specs.Join.{pair, pairRead, judge, judgeOf, judged, via, home, atStart, nothing, seq, _then_}
-use Rattle.format.specs.Number.{number, numberRead, value, fixed, bytes, count, flag}
-use Rattle.format.specs.Each.{each, eachRead, counted, listed}
-use Rattle.format.specs.Sized.{weighed, measured, sized}
+use Rattle.format.specs.ReadWrite.{pairRead, judge, judgeOf, home, numberRead, value, eachRead, weighed}
+use Rattle.format.specs.Combinators.{pair, judged, via, atStart, nothing, seq, _then_, number, fixed, bytes, count, flag, each, counted, listed, measured, sized}
 use Rattle.text.specs.Text.{extended, stringLength, string, word}
 use Rattle.date.specs.Date.{date}
 use Rattle.kind.specs.declared.Product.{Product}

@@ -13,9 +13,9 @@ use Rattle.format.specs.declared.Outcome.{Outcome}
 use Rattle.format.specs.declared.Outcome.the-variants as Outcome
 use Rattle.format.specs.Fault.{numberOf}
 use Rattle.format.specs.Format.{Answer, got, refused, endOf, shift, mapped, andThen, whole, pick, Format, Bytes, apart}
-use Rattle.format.specs.Join.{pair, pairRead, judge, judgeOf, judged, via, seq, _then_}
-use Rattle.format.specs.Number.{number, numberRead, value, fixed, bytes, within, within-is}
-use Rattle.format.specs.Each.{each, counted}
+use Rattle.format.specs.ReadWrite.{pairRead, judge, judgeOf, numberRead, value, within}
+use Rattle.format.specs.Laws.ReadWrite.{within-is}
+use Rattle.format.specs.Combinators.{pair, judged, via, seq, _then_, number, fixed, bytes, each, counted}
 use Rattle.kind.specs.declared.Product.{Product}
 use Rattle.kind.specs.declared.Kind.{Kind}
 use Rattle.kind.specs.declared.Row.{Row}

@@ -10,7 +10,7 @@ use Rattle.format.specs.declared.Fault.the-variants as Fault
 use Rattle.format.specs.declared.Outcome.{Outcome}
 use Rattle.format.specs.declared.Outcome.the-variants as Outcome
 use Rattle.format.specs.Fault.{numberOf}
-use Rattle.format.specs.Number.{within}
+use Rattle.format.specs.ReadWrite.{within}
 
 -- the table, in its order: number, when, and its place
 abbrev pub Listed : Fault → ℕ → Type 0

@@ -2,7 +2,7 @@
 ghost use mathlib.Core.Path.{_≡_};
 ghost use Prim.Native.Nat.{_+_, _-_, _≤_};
 ghost use lib.ListN.{length};
-ghost use Rattle.format.specs.Number.{spelt, bit};
+ghost use Rattle.format.specs.ReadWrite.{spelt, bit};
 ghost use Rattle.buffer.specs.Laid.{zeros, put, putIn, down, up, pulled, moved, opened};
 
 fn copy(p: &mut [u8], src: &[u8])

@@ -8,7 +8,8 @@ use lib.ListN.{length, take, length-append}
 use lib.Seq.{length-take-le}
 use Rattle.format.specs.declared.Fault.the-variants as Fault
 use Rattle.format.specs.declared.Outcome.the-variants as Outcome
-use Rattle.format.specs.Number.{spelt, length-spelt, bit}
+use Rattle.format.specs.ReadWrite.{spelt, bit}
+use Rattle.format.specs.Laws.ReadWrite.{length-spelt}
 use Rattle.text.specs.Text.{string}
 use Rattle.kind.specs.declared.Product.{Product}
 use Rattle.rule.specs.Rule.{Rule}

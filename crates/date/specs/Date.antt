@@ -2,8 +2,7 @@
 use Prim.Native.Nat.{ℕ}
 use Rattle.format.specs.declared.Fault.the-variants as Fault
 use Rattle.format.specs.Format.{Format}
-use Rattle.format.specs.Join.{judged}
-use Rattle.format.specs.Number.{number}
+use Rattle.format.specs.Combinators.{judged, number}
 use Rattle.date.specs.Double.{accepted}
 
 -- its value is its bits, so that it is written as it was read

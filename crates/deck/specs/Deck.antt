@@ -15,9 +15,10 @@ use Rattle.format.specs.declared.Outcome.{Outcome}
 use Rattle.format.specs.declared.Outcome.the-variants.{Done, No}
 use Rattle.format.specs.Fault.{placeOf}
 use Rattle.format.specs.Format.{Answer, got, refused, shift, mapped, andThen, endOf, Format, Bytes, pick, whole, apart}
-use Rattle.format.specs.Join.{pair, pairRead, pairWrite, seq, judged, via, _then_, then-fit}
-use Rattle.format.specs.Number.{number, count, within-is, fixed, bytes, value, spelt, length-spelt}
-use Rattle.format.specs.Each.{each, eachWrite, each-long, counted}
+use Rattle.format.specs.ReadWrite.{pairRead, pairWrite, value, spelt, eachWrite}
+use Rattle.format.specs.Laws.ReadWrite.{within-is, length-spelt}
+use Rattle.format.specs.Combinators.{pair, seq, judged, via, _then_, number, count, fixed, bytes, each, counted}
+use Rattle.format.specs.Laws.Combinators.{then-fit, each-long}
 use Rattle.format.specs.Written.{behind, Row}
 use Rattle.format.specs.declared.Read.{Read}
 use Rattle.format.specs.declared.Read.the-variants as Read

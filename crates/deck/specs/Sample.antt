@@ -5,10 +5,8 @@ use mathlib.Core.Bool.{true}
 use mathlib.Core.List.{List, [], _∷_, _++_}
 use lib.ListN.{replicate}
 use Rattle.format.specs.Format.{got, shift, mapped, andThen, pick, whole}
-use Rattle.format.specs.Join.{pair, pairRead, pairWrite, seq, _then_, judged, judgeOf, judge, via, home, atStart, nothing}
-use Rattle.format.specs.Number.{number, numberRead, within, count, fixed, bytes, flag, bit, value, spelt}
-use Rattle.format.specs.Each.{each, eachRead, eachWrite, counted, listed}
-use Rattle.format.specs.Sized.{sized, measured, weighed}
+use Rattle.format.specs.ReadWrite.{pairRead, pairWrite, judgeOf, judge, home, numberRead, within, bit, value, spelt, eachRead, eachWrite, weighed}
+use Rattle.format.specs.Combinators.{pair, seq, _then_, judged, via, atStart, nothing, number, count, fixed, bytes, flag, each, counted, listed, sized, measured}
 use Rattle.text.specs.Text.{extended, stringLength, string}
 use Rattle.kind.specs.declared.Product.the-variants.{Studio}
 use Rattle.kind.specs.Kinds.{editionOf, has, rowIn, offered, rowOf, rowBy, kindOf}

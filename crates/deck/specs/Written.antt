@@ -5,9 +5,9 @@ use native.Mathlib.Omega.{arith}
 use mathlib.Core.Path.{_≡_, refl, sym, ap, _∙_}
 use mathlib.Core.List.{List, _∷_, _++_, append-assoc}
 use lib.ListN.{length, take, length-append}
-use Rattle.format.specs.Join.{pair, pairWrite, seq, _then_, judged, via}
-use Rattle.format.specs.Number.{number, count, fixed, bytes, value, spelt, length-spelt}
-use Rattle.format.specs.Each.{each, eachWrite, each-append, each-alike, counted}
+use Rattle.format.specs.ReadWrite.{pairWrite, value, spelt, eachWrite}
+use Rattle.format.specs.Laws.ReadWrite.{length-spelt, each-append, each-alike}
+use Rattle.format.specs.Combinators.{pair, seq, _then_, judged, via, number, count, fixed, bytes, each, counted}
 use Rattle.format.specs.Skip.{startIn}
 use Rattle.kind.specs.declared.Product.{Product}
 use Rattle.kind.specs.declared.Product.the-variants.{Studio}

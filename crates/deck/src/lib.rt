@@ -6,7 +6,7 @@ use kind::Edition;
 use kind::Product;
 ghost use mathlib.Core.Path.{_≡_};
 ghost use Prim.Native.Nat.{_≤_};
-ghost use Rattle.format.specs.Each.{each};
+ghost use Rattle.format.specs.Combinators.{each};
 ghost use Rattle.format.specs.Rows.{total};
 ghost use Rattle.format.specs.Seen.{seen, itself};
 ghost use Rattle.rule.specs.Rule.{rule, elementsIn};

@@ -11,10 +11,8 @@ use borrow.Author.Tests.{not-true}
 use Rattle.format.specs.declared.Fault.the-variants as Fault
 use Rattle.format.specs.Fault.{numberOf}
 use Rattle.format.specs.Format.{Answer, got, refused, shift, mapped, andThen, pick, whole}
-use Rattle.format.specs.Join.{pair, pairRead, seq, _then_, judged, judgeOf, judge, via, home, atStart, nothing}
-use Rattle.format.specs.Number.{number, numberRead, within, count, fixed, bytes, flag, bit, value}
-use Rattle.format.specs.Each.{each, eachRead, counted, listed}
-use Rattle.format.specs.Sized.{sized, measured, weighed}
+use Rattle.format.specs.ReadWrite.{pairRead, judgeOf, judge, home, numberRead, within, bit, value, eachRead, weighed}
+use Rattle.format.specs.Combinators.{pair, seq, _then_, judged, via, atStart, nothing, number, count, fixed, bytes, flag, each, counted, listed, sized, measured}
 use Rattle.civil.specs.Calendar.{leap, monthDays, monthsDays, yearsDays, dayOf}
 use Rattle.date.specs.Double.{negative, size, day, accepted}
 use Rattle.moment.specs.declared.Moment.{Moment}

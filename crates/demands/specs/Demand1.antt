@@ -15,7 +15,7 @@ use Rattle.format.specs.declared.Outcome.{Outcome}
 use Rattle.format.specs.declared.Outcome.the-variants as Outcome
 use Rattle.format.specs.Fault.{numberOf, codeOf}
 use Rattle.format.specs.Format.{Answer, got, refused, mapped, whole, pick, one, Format, Bytes}
-use Rattle.format.specs.Number.{within}
+use Rattle.format.specs.ReadWrite.{within}
 use Rattle.kind.specs.declared.Product.{Product}
 use Rattle.kind.specs.declared.Edition.{Edition}
 use Rattle.kind.specs.declared.Edition.the-variants as Edition

@@ -15,8 +15,9 @@ use Rattle.format.specs.declared.Fault.the-variants as Fault
 use Rattle.format.specs.declared.Outcome.{Outcome}
 use Rattle.format.specs.declared.Outcome.the-variants as Outcome
 use Rattle.format.specs.Format.{Answer, got, refused, Bytes, pick, whole}
-use Rattle.format.specs.Join.{pair, seq, _then_, judged, via, then-fit}
-use Rattle.format.specs.Number.{number, fixed, flag, bit}
+use Rattle.format.specs.ReadWrite.{bit}
+use Rattle.format.specs.Combinators.{pair, seq, _then_, judged, via, number, fixed, flag}
+use Rattle.format.specs.Laws.Combinators.{then-fit}
 use Rattle.date.specs.Double.{accepted}
 use Rattle.date.specs.Date.{date}
 use Rattle.date.proofs.Floats.{date-no-nan, bits-back}

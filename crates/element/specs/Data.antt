@@ -6,9 +6,9 @@ use mathlib.Core.List.{List, [], append-assoc}
 use lib.ListN.{length}
 use Rattle.format.specs.declared.Fault.the-variants as Fault
 use Rattle.format.specs.Format.{Format}
-use Rattle.format.specs.Join.{via, judged, pair, pairWrite, seq, _then_}
-use Rattle.format.specs.Number.{number, count, fixed, flag, spelt, length-spelt}
-use Rattle.format.specs.Each.{each, eachWrite, counted, listed}
+use Rattle.format.specs.ReadWrite.{pairWrite, spelt, eachWrite}
+use Rattle.format.specs.Laws.ReadWrite.{length-spelt}
+use Rattle.format.specs.Combinators.{via, judged, pair, seq, _then_, number, count, fixed, flag, each, counted, listed}
 use Rattle.format.specs.Written.{behind, Stands, Held, Row}
 use Rattle.text.specs.Text.{word}
 use Rattle.date.specs.Date.{date}

@@ -10,8 +10,7 @@ use Rattle.format.specs.declared.Fault.the-variants as Fault
 use Rattle.format.specs.declared.Read.{Read}
 use Rattle.format.specs.declared.Read.the-variants as Read
 use Rattle.format.specs.Format.{Format}
-use Rattle.format.specs.Join.{pair, judged}
-use Rattle.format.specs.Number.{number}
+use Rattle.format.specs.Combinators.{pair, judged, number}
 use Rattle.format.specs.Seen.{seen, itself, none, via-is, pair-stop, pair-go, judged-stop, judged-got, judged-no, number-no}
 use Rattle.kind.specs.declared.Product.{Product}
 use Rattle.kind.specs.declared.Role.{Role}

@@ -2,7 +2,8 @@
 use format::Fault;
 use format::Read;
 ghost use mathlib.Core.Path.{_≡_};
-ghost use Rattle.format.specs.Number.{count, fixed, flag, bit};
+ghost use Rattle.format.specs.ReadWrite.{bit};
+ghost use Rattle.format.specs.Combinators.{count, fixed, flag};
 ghost use Rattle.format.specs.Seen.{seen, itself, none, judgedCount, judgedFixed};
 
 // A number that was read, as a count: it must be from low to high.

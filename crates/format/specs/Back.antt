@@ -9,7 +9,7 @@ use Rattle.format.specs.declared.Fault.{Fault}
 use Rattle.format.specs.declared.Read.{Read}
 use Rattle.format.specs.declared.Read.the-variants.{Got, No}
 use Rattle.format.specs.Format.{got, endOf, Bytes, bytes-drop, Format}
-use Rattle.format.specs.Each.{eachWrite}
+use Rattle.format.specs.ReadWrite.{eachWrite}
 use Rattle.format.specs.Seen.{seen, told-got, unlike}
 use Rattle.format.specs.Written.{seen-back, Stands, Held, Row, first}
 

@@ -1,9 +1,7 @@
 pub mod Fault
 pub mod Format
-pub mod Join
-pub mod Number
-pub mod Each
-pub mod Sized
+pub mod ReadWrite
+pub mod Combinators
 pub mod Seen
 pub mod Rows
 pub mod Parts
@@ -11,3 +9,4 @@ pub mod Sizes
 pub mod Written
 pub mod Back
 pub mod Skip
+pub mod Laws

@@ -13,9 +13,8 @@ use Rattle.format.specs.declared.Fault.the-variants.{Cut}
 use Rattle.format.specs.declared.Read.{Read}
 use Rattle.format.specs.declared.Read.the-variants.{Got, No}
 use Rattle.format.specs.Format.{Answer, got, refused, shift, mapped, andThen, pick, Format, went, mapped-got}
-use Rattle.format.specs.Number.{number, numberRead, value}
-use Rattle.format.specs.Join.{pair}
-use Rattle.format.specs.Each.{each, eachRead, counted, listed}
+use Rattle.format.specs.ReadWrite.{numberRead, value, eachRead}
+use Rattle.format.specs.Combinators.{number, pair, each, counted, listed}
 use Rattle.format.specs.Seen.{told, seen, none, told-got, on-stop, told-shift, told-mapped, via-is}
 
 -- of a row of n the i first are read: none is left; the next is refused; the next is read

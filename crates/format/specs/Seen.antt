@@ -14,8 +14,9 @@ use Rattle.format.specs.declared.Fault.the-variants.{Cut, Count, Field}
 use Rattle.format.specs.declared.Read.{Read}
 use Rattle.format.specs.declared.Read.the-variants.{Got, No}
 use Rattle.format.specs.Format.{Answer, got, refused, shift, mapped, andThen, pick, Format}
-use Rattle.format.specs.Join.{pair, pairRead, seq, _then_, judged, judgeOf, judge, via, home, atStart, nothing}
-use Rattle.format.specs.Number.{number, numberRead, count, fixed, within, flag, bit, bit-eqb, value, value-join}
+use Rattle.format.specs.ReadWrite.{pairRead, judgeOf, judge, home, numberRead, within, bit, value}
+use Rattle.format.specs.Laws.ReadWrite.{bit-eqb, value-join}
+use Rattle.format.specs.Combinators.{pair, seq, _then_, judged, via, atStart, nothing, number, count, fixed, flag}
 
 -- an answer as the code gives it: what f tells of the value, and the place past it
 unfoldable pub told : {A : Type 0} → ℕ → (A → ℕ) → Answer A → Read

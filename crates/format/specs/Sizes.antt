@@ -13,9 +13,8 @@ use Rattle.format.specs.declared.Fault.{Fault}
 use Rattle.format.specs.declared.Read.{Read}
 use Rattle.format.specs.declared.Read.the-variants.{Got, No}
 use Rattle.format.specs.Format.{got, shift, mapped, andThen, pick, Format}
-use Rattle.format.specs.Join.{pair, pairRead, judged, judgeOf, judge, via}
-use Rattle.format.specs.Number.{number}
-use Rattle.format.specs.Sized.{sized, measured, weighed}
+use Rattle.format.specs.ReadWrite.{pairRead, judgeOf, judge, weighed}
+use Rattle.format.specs.Combinators.{pair, judged, via, number, sized, measured}
 use Rattle.format.specs.Seen.{told, seen, itself, told-got, told-no}
 
 -- z is the size of the j bytes behind p, as the code tests it: they end at q

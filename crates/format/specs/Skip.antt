@@ -9,7 +9,7 @@ use Rattle.format.specs.declared.Fault.{Fault}
 use Rattle.format.specs.declared.Read.{Read}
 use Rattle.format.specs.declared.Read.the-variants.{Got, No}
 use Rattle.format.specs.Format.{Format}
-use Rattle.format.specs.Each.{eachWrite, AllFit}
+use Rattle.format.specs.ReadWrite.{eachWrite, AllFit}
 use Rattle.format.specs.Seen.{seen}
 use Rattle.format.specs.Written.{behind, Row, Stands, first}
 use Rattle.format.specs.Back.{Where, back-got, back-no}

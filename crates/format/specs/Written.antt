@@ -7,7 +7,7 @@ use lib.ListN.{length, drop}
 use lib.Seq.{drop-drop, drop-append-seam}
 use Rattle.format.specs.declared.Read.the-variants.{Got}
 use Rattle.format.specs.Format.{Format}
-use Rattle.format.specs.Each.{eachWrite, AllFit}
+use Rattle.format.specs.ReadWrite.{eachWrite, AllFit}
 use Rattle.format.specs.Seen.{seen, told}
 
 -- behind u stands v

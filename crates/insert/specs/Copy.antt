@@ -4,7 +4,8 @@ use native.Mathlib.Omega.{arith}
 use mathlib.Core.Path.{_≡_, refl, ap, _∙_}
 use mathlib.Core.List.{List, _++_, append-assoc}
 use lib.ListN.{length, length-append}
-use Rattle.format.specs.Number.{spelt, length-spelt}
+use Rattle.format.specs.ReadWrite.{spelt}
+use Rattle.format.specs.Laws.ReadWrite.{length-spelt}
 use Rattle.rule.specs.Rule.{Rule}
 use Rattle.rule.specs.Parts.{front, back, headBytes, inner, sizeOf}
 use Rattle.buffer.specs.Laid.{putIn, put-both}

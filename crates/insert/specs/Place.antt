@@ -10,8 +10,8 @@ use lib.ListN.{length, take, drop, length-append, length-drop, take-append-drop}
 use lib.Seq.{length-take-le}
 use borrow.Author.Tests.{eq-eqb, ne-eqb}
 use Rattle.format.specs.Format.{pick}
-use Rattle.format.specs.Number.{spelt, length-spelt}
-use Rattle.format.specs.Each.{eachWrite}
+use Rattle.format.specs.ReadWrite.{spelt, eachWrite}
+use Rattle.format.specs.Laws.ReadWrite.{length-spelt}
 use Rattle.format.specs.Skip.{startIn}
 use Rattle.text.specs.Text.{string}
 use Rattle.kind.specs.declared.Product.{Product}

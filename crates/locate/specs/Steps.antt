@@ -13,8 +13,9 @@ use Rattle.format.specs.declared.Fault.{Fault}
 use Rattle.format.specs.declared.Read.{Read}
 use Rattle.format.specs.declared.Read.the-variants.{Got, No}
 use Rattle.format.specs.Format.{Answer, got, refused, Bytes, pick}
-use Rattle.format.specs.Number.{number, length-spelt}
-use Rattle.format.specs.Each.{eachWrite}
+use Rattle.format.specs.ReadWrite.{eachWrite}
+use Rattle.format.specs.Laws.ReadWrite.{length-spelt}
+use Rattle.format.specs.Combinators.{number}
 use Rattle.format.specs.Seen.{seen, itself, unlike}
 use Rattle.format.specs.Written.{Held, Row}
 use Rattle.format.specs.Back.{Where, stands-seen, stands-room, seen-ends}

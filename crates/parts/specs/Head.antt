@@ -7,8 +7,9 @@ use mathlib.Core.List.{List, [], _∷_}
 use lib.ListN.{length}
 use borrow.Author.Tests.{ne-eqb}
 use Rattle.format.specs.Format.{pick}
-use Rattle.format.specs.Join.{via, judged, seq, _then_, pair, pairWrite}
-use Rattle.format.specs.Number.{number, spelt, value, fixed, bytes, length-spelt}
+use Rattle.format.specs.ReadWrite.{pairWrite, spelt, value}
+use Rattle.format.specs.Laws.ReadWrite.{length-spelt}
+use Rattle.format.specs.Combinators.{via, judged, seq, _then_, pair, number, fixed, bytes}
 use Rattle.buffer.specs.Laid.{putIn}
 use Rattle.rule.specs.Rule.{head, firstHead, classHead, className, separator}
 use Rattle.rule.specs.Parts.{headBytes}

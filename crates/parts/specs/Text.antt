@@ -9,9 +9,9 @@ use lib.Dec.{leb, eqb}
 use lib.ListN.{length, length-append}
 use borrow.Author.Tests.{le-leb, lt-leb, leb-true, eqb-true, ne-eqb}
 use Rattle.format.specs.Format.{Bytes, pick}
-use Rattle.format.specs.Join.{pair, pairWrite, via, judged, nothing, atStart}
-use Rattle.format.specs.Number.{number, fixed, spelt, length-spelt}
-use Rattle.format.specs.Each.{each, eachWrite, counted, listed}
+use Rattle.format.specs.ReadWrite.{pairWrite, spelt, eachWrite}
+use Rattle.format.specs.Laws.ReadWrite.{length-spelt}
+use Rattle.format.specs.Combinators.{pair, via, judged, nothing, atStart, number, fixed, each, counted, listed}
 use Rattle.text.specs.Text.{extended, stringLength, string}
 use Rattle.buffer.specs.Laid.{putIn, put-out, put-both}
 use Rattle.plan.specs.Given.{isText, units}

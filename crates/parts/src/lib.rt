@@ -3,7 +3,7 @@ ghost use mathlib.Core.Path.{_≡_};
 ghost use mathlib.Core.List.{_++_};
 ghost use Prim.Native.Nat.{_≤_};
 ghost use lib.ListN.{length};
-ghost use Rattle.format.specs.Number.{spelt};
+ghost use Rattle.format.specs.ReadWrite.{spelt};
 ghost use Rattle.rule.specs.Parts.{headBytes};
 ghost use Rattle.buffer.specs.Laid.{putIn};
 ghost use Rattle.parts.specs.Text.{textBytes, textSize};

@@ -10,8 +10,8 @@ use lib.Seq.{drop-length}
 use borrow.Author.Tests.{eqb-true, ne-eqb}
 use Rattle.format.specs.declared.Fault.the-variants as Fault
 use Rattle.format.specs.Format.{Answer, got, refused, mapped-got, Format, Bytes, whole, pick, apart}
-use Rattle.format.specs.Join.{pair, pairWrite, judged, via, seq, _then_}
-use Rattle.format.specs.Number.{number, spelt, fixed}
+use Rattle.format.specs.ReadWrite.{pairWrite, spelt}
+use Rattle.format.specs.Combinators.{pair, judged, via, seq, _then_, number, fixed}
 use Rattle.kind.specs.declared.Product.{Product}
 use Rattle.kind.specs.declared.Row.{Row}
 use Rattle.kind.specs.declared.Row.the-variants as Row

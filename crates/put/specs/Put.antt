@@ -14,8 +14,8 @@ use Rattle.format.specs.declared.Fault.the-variants as Fault
 use Rattle.format.specs.declared.Outcome.{Outcome}
 use Rattle.format.specs.declared.Outcome.the-variants as Outcome
 use Rattle.format.specs.Format.{pick, Format}
-use Rattle.format.specs.Join.{pair, pairWrite, seq, _then_, judged, via}
-use Rattle.format.specs.Number.{number, spelt, fixed, flag, bit}
+use Rattle.format.specs.ReadWrite.{pairWrite, spelt, bit}
+use Rattle.format.specs.Combinators.{pair, seq, _then_, judged, via, number, fixed, flag}
 use Rattle.buffer.specs.Laid.{put, putIn, put-in, put-both}
 use Rattle.date.specs.Date.{date}
 use Rattle.element.specs.Data.{Data, plain, sizes, span, Limit, oneZero, markerData, simpleData, wordData, sizeData, limit, dateData, dataOf}

@@ -12,8 +12,9 @@ use Rattle.format.specs.declared.Outcome.the-variants as Outcome
 use Rattle.format.specs.declared.Read.{Read}
 use Rattle.format.specs.declared.Read.the-variants.{Got, No}
 use Rattle.format.specs.Format.{Bytes}
-use Rattle.format.specs.Number.{number, spelt, length-spelt}
-use Rattle.format.specs.Each.{eachWrite}
+use Rattle.format.specs.ReadWrite.{spelt, eachWrite}
+use Rattle.format.specs.Laws.ReadWrite.{length-spelt}
+use Rattle.format.specs.Combinators.{number}
 use Rattle.format.specs.Seen.{seen, itself, unlike}
 use Rattle.format.specs.Back.{seen-fits}
 use Rattle.format.specs.Skip.{startIn}

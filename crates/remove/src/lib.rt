@@ -5,7 +5,7 @@ use format::Read;
 use locate::Spot;
 ghost use mathlib.Core.Path.{_≡_};
 ghost use Prim.Native.Nat.{ℕ, _+_, _-_, _^_, _≤_, _<_};
-ghost use Rattle.format.specs.Number.{spelt};
+ghost use Rattle.format.specs.ReadWrite.{spelt};
 ghost use Rattle.buffer.specs.Laid.{putIn};
 ghost use Rattle.locate.specs.Steps.{nameEnd};
 ghost use Rattle.plan.specs.Edit.{remove};

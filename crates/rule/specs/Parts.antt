@@ -8,10 +8,9 @@ use lib.ListN.{length, length-append}
 use lib.Dec.{eqb}
 use borrow.Author.Tests.{ne-eqb}
 use Rattle.format.specs.Format.{pick}
-use Rattle.format.specs.Join.{pair, pairWrite, seq, _then_, judged, via}
-use Rattle.format.specs.Number.{number, count, spelt, length-spelt, flag, bit}
-use Rattle.format.specs.Each.{each, eachWrite, each-alike, counted}
-use Rattle.format.specs.Sized.{sized, measured}
+use Rattle.format.specs.ReadWrite.{pairWrite, spelt, bit, eachWrite}
+use Rattle.format.specs.Laws.ReadWrite.{length-spelt, each-alike}
+use Rattle.format.specs.Combinators.{pair, seq, _then_, judged, via, number, count, flag, each, counted, sized, measured}
 use Rattle.text.specs.Text.{string}
 use Rattle.kind.specs.declared.Product.{Product}
 use Rattle.kind.specs.declared.Product.the-variants.{Studio}

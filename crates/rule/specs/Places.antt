@@ -8,10 +8,9 @@ use mathlib.Core.Bool.{Bool, true, false}
 use lib.Dec.{eqb, lit<}
 use borrow.Author.Tests.{eq-eqb, ne-eqb}
 use Rattle.format.specs.Format.{pick}
-use Rattle.format.specs.Join.{pair, pairWrite, judged, via, seq, _then_, atStart}
-use Rattle.format.specs.Number.{number, count, fixed, flag, spelt, length-spelt, bit}
-use Rattle.format.specs.Each.{each, eachWrite, counted, listed}
-use Rattle.format.specs.Sized.{sized, measured}
+use Rattle.format.specs.ReadWrite.{pairWrite, spelt, bit, eachWrite}
+use Rattle.format.specs.Laws.ReadWrite.{length-spelt}
+use Rattle.format.specs.Combinators.{pair, judged, via, seq, _then_, atStart, number, count, fixed, flag, each, counted, listed, sized, measured}
 use Rattle.format.specs.declared.Read.{Read}
 use Rattle.format.specs.declared.Read.the-variants.{Got}
 use Rattle.format.specs.Seen.{seen, itself}

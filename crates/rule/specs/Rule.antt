@@ -12,10 +12,10 @@ use Rattle.format.specs.declared.Fault.the-variants as Fault
 use Rattle.format.specs.declared.Read.{Read}
 use Rattle.format.specs.declared.Read.the-variants.{Got, No}
 use Rattle.format.specs.Format.{Format, Bytes, pick}
-use Rattle.format.specs.Join.{pair, judged, via, seq, _then_, then-fit}
-use Rattle.format.specs.Number.{number, within-is, count, fixed, bytes, value, flag}
-use Rattle.format.specs.Each.{each, each-long, AllFit, counted}
-use Rattle.format.specs.Sized.{sized, measured}
+use Rattle.format.specs.ReadWrite.{value, AllFit}
+use Rattle.format.specs.Laws.ReadWrite.{within-is}
+use Rattle.format.specs.Combinators.{pair, judged, via, seq, _then_, number, count, fixed, bytes, flag, each, counted, sized, measured}
+use Rattle.format.specs.Laws.Combinators.{then-fit, each-long}
 use Rattle.format.specs.Back.{seen-fits}
 use Rattle.format.specs.Seen.{seen, itself, none, unlike, via-is, pair-stop, then-stop, then-go, number-no}
 use Rattle.text.specs.Text.{string}
@@ -82,11 +82,8 @@ fits-placed p j x f = go (eqb j 0) f
     go false g = then-fit separator (element p) x g
 
 -- the number of elements, the head of rule i, the elements
-pub body-long : (p : Product) (i n : ℕ) (xs : List Element) → (head i then each (placed p) 0 n) .Fit xs → length xs ≡ n
-body-long p i n xs f = each-long (placed p) 0 n xs (then-fit (head i) (each (placed p) 0 n) xs f)
-
 unfoldable pub body : Product → ℕ → Format (List Element)
-body p i = counted elementCount (λ n. head i then each (placed p) 0 n) (body-long p i)
+body p i = counted elementCount (λ n. head i then each (placed p) 0 n) (λ n xs f. each-long (placed p) 0 n xs (then-fit (head i) (each (placed p) 0 n) xs f))
 
 -- the fields of rule i in order: signature and Unknown1, name, Enabled, Unknown2 to Unknown5, Data Size and what it counts
 unfoldable pub fromUnknown4 : Product → ℕ → Format (ℕ × (ℕ × List Element))

@@ -9,10 +9,9 @@ use lib.ListN.{length, take, drop, length-append}
 use borrow.Author.Tests.{le-leb, eq-eqb}
 use Rattle.format.specs.declared.Fault.the-variants as Fault
 use Rattle.format.specs.Format.{pick}
-use Rattle.format.specs.Join.{pair, seq, _then_, judged, via}
-use Rattle.format.specs.Number.{number, count, within, within-is, fixed, bytes, value, flag, bit}
-use Rattle.format.specs.Each.{each, AllFit, counted}
-use Rattle.format.specs.Sized.{sized, measured}
+use Rattle.format.specs.ReadWrite.{within, value, bit, AllFit}
+use Rattle.format.specs.Laws.ReadWrite.{within-is}
+use Rattle.format.specs.Combinators.{pair, seq, _then_, judged, via, number, count, fixed, bytes, flag, each, counted, sized, measured}
 use Rattle.text.specs.Text.{string}
 use Rattle.kind.specs.declared.Product.{Product}
 use Rattle.rule.specs.Rule.{Rule, rule, fields, fromUnknown2, fromUnknown4, body, head, firstHead, classHead, className, separator, placed}

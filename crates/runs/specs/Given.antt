@@ -9,9 +9,9 @@ use lib.ListN.{length, length-append}
 use Rattle.format.specs.declared.Fault.{Fault}
 use Rattle.format.specs.declared.Fault.the-variants as Fault
 use Rattle.format.specs.Format.{Answer, got, refused, Bytes, pick, whole, apart, mapped-got}
-use Rattle.format.specs.Join.{pair, judged, via, atStart, nothing, seq, _then_}
-use Rattle.format.specs.Number.{number, fixed, count}
-use Rattle.format.specs.Each.{each, AllFit, all-append, counted, listed}
+use Rattle.format.specs.ReadWrite.{AllFit}
+use Rattle.format.specs.Laws.ReadWrite.{all-append}
+use Rattle.format.specs.Combinators.{pair, judged, via, atStart, nothing, seq, _then_, number, fixed, count, each, counted, listed}
 use Rattle.text.specs.Text.{extended, stringLength, string, word}
 use Rattle.kind.specs.declared.Product.{Product}
 use Rattle.kind.specs.declared.Kind.{Kind}

@@ -9,7 +9,8 @@ use lib.ListN.{length, take, drop, length-append, take-append-drop}
 use borrow.Author.Tests.{leb-true, ltb-true}
 use Rattle.format.specs.declared.Fault.{Fault}
 use Rattle.format.specs.Format.{Answer, got, refused, Format, Bytes, pick}
-use Rattle.format.specs.Each.{AllFit, all-append, all-take, all-drop}
+use Rattle.format.specs.ReadWrite.{AllFit}
+use Rattle.format.specs.Laws.ReadWrite.{all-append, all-take, all-drop}
 use Rattle.text.specs.Text.{string, word}
 use Rattle.kind.specs.declared.Product.{Product}
 use Rattle.element.specs.Data.{plain, words, sizes, span}

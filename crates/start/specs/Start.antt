@@ -10,9 +10,9 @@ use Rattle.format.specs.declared.Fault.the-variants as Fault
 use Rattle.format.specs.declared.Outcome.{Outcome}
 use Rattle.format.specs.declared.Outcome.the-variants as Outcome
 use Rattle.format.specs.Format.{pick}
-use Rattle.format.specs.Join.{pair, pairWrite, seq, _then_, judged, via}
-use Rattle.format.specs.Number.{number, count, fixed, bytes, value, spelt, length-spelt}
-use Rattle.format.specs.Each.{each, eachWrite, counted}
+use Rattle.format.specs.ReadWrite.{pairWrite, value, spelt, eachWrite}
+use Rattle.format.specs.Laws.ReadWrite.{length-spelt}
+use Rattle.format.specs.Combinators.{pair, seq, _then_, judged, via, number, count, fixed, bytes, each, counted}
 use Rattle.deck.specs.Deck.{mark, header, deck}
 use Rattle.deck.specs.Written.{written}
 use Rattle.buffer.specs.Laid.{putIn, put, put-in, put-out, laid}

@@ -2,10 +2,8 @@
 use mathlib.Core.Path.{_≡_, refl}
 use mathlib.Core.List.{[], _∷_}
 use Rattle.format.specs.Format.{pick}
-use Rattle.format.specs.Join.{pair, pairWrite, seq, _then_, judged, via, atStart, nothing}
-use Rattle.format.specs.Number.{number, count, fixed, bytes, flag, bit, value, spelt}
-use Rattle.format.specs.Each.{each, eachWrite, counted, listed}
-use Rattle.format.specs.Sized.{sized, measured}
+use Rattle.format.specs.ReadWrite.{pairWrite, bit, value, spelt, eachWrite}
+use Rattle.format.specs.Combinators.{pair, seq, _then_, judged, via, atStart, nothing, number, count, fixed, bytes, flag, each, counted, listed, sized, measured}
 use Rattle.text.specs.Text.{extended, stringLength, string}
 use Rattle.kind.specs.declared.Product.the-variants.{Studio}
 use Rattle.kind.specs.Kinds.{has, rowIn, offered, rowOf}

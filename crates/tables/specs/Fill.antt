@@ -12,8 +12,7 @@ use Rattle.format.specs.declared.Fault.{Fault}
 use Rattle.format.specs.declared.Read.{Read}
 use Rattle.format.specs.declared.Read.the-variants.{Got, No}
 use Rattle.format.specs.Format.{Format, Bytes, pick}
-use Rattle.format.specs.Join.{pair, judged, via, seq, _then_}
-use Rattle.format.specs.Number.{number}
+use Rattle.format.specs.Combinators.{pair, judged, via, seq, _then_, number}
 use Rattle.format.specs.Seen.{seen, itself}
 use Rattle.format.specs.Rows.{total}
 use Rattle.format.specs.Back.{Ahead, Next, next, ahead-done, back-got, back-no, seen-fits}

@@ -12,8 +12,8 @@ use Rattle.format.specs.declared.Fault.the-variants as Fault
 use Rattle.format.specs.declared.Outcome.{Outcome}
 use Rattle.format.specs.declared.Outcome.the-variants.{Done, No}
 use Rattle.format.specs.Format.{Answer, got, refused, Bytes, pick}
-use Rattle.format.specs.Join.{pair, pairWrite, via}
-use Rattle.format.specs.Each.{each, eachWrite, counted}
+use Rattle.format.specs.ReadWrite.{pairWrite, eachWrite}
+use Rattle.format.specs.Combinators.{pair, via, each, counted}
 use Rattle.format.specs.Rows.{total}
 use Rattle.format.specs.Back.{Ahead}
 use Rattle.kind.specs.declared.Product.{Product}

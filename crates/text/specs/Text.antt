@@ -10,9 +10,9 @@ use Rattle.format.specs.declared.Fault.the-variants.{Cut, Form, Field}
 use Rattle.format.specs.declared.Read.{Read}
 use Rattle.format.specs.declared.Read.the-variants.{Got, No}
 use Rattle.format.specs.Format.{Format, pick}
-use Rattle.format.specs.Join.{pair, pairWrite, via, judged, seq, atStart, nothing, _then_}
-use Rattle.format.specs.Number.{number, fixed, spelt, length-spelt}
-use Rattle.format.specs.Each.{each, eachWrite, counted, listed}
+use Rattle.format.specs.ReadWrite.{pairWrite, spelt, eachWrite}
+use Rattle.format.specs.Laws.ReadWrite.{length-spelt}
+use Rattle.format.specs.Combinators.{pair, via, judged, seq, atStart, nothing, _then_, number, fixed, each, counted, listed}
 use Rattle.format.specs.Seen.{seen, itself, none, told-is, via-is, pair-stop, pair-go, pick-yes, yes-eq, start-got, start-no}
 use Rattle.format.specs.Rows.{listed-is, number-row, row-no}
 

@@ -9,7 +9,8 @@ use Rattle.format.specs.declared.Fault.{Fault}
 use Rattle.format.specs.declared.Read.{Read}
 use Rattle.format.specs.declared.Read.the-variants.{Got}
 use Rattle.format.specs.Format.{got, Bytes, bytes-drop, Format}
-use Rattle.format.specs.Join.{pair, pairWrite, seq, _then_, judged, via}
+use Rattle.format.specs.ReadWrite.{pairWrite}
+use Rattle.format.specs.Combinators.{pair, seq, _then_, judged, via}
 use Rattle.format.specs.Written.{seen-back, Held}
 use Rattle.format.specs.Back.{seen-fits}
 use Rattle.format.specs.Seen.{seen, itself}

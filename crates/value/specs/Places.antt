@@ -16,9 +16,8 @@ use Rattle.format.specs.declared.Fault.the-variants as Fault
 use Rattle.format.specs.declared.Read.{Read}
 use Rattle.format.specs.declared.Read.the-variants.{Got, No}
 use Rattle.format.specs.Format.{Answer, got, refused, Bytes, bytes-all, pick, whole}
-use Rattle.format.specs.Join.{pair, pairWrite, seq, _then_, judged, via}
-use Rattle.format.specs.Number.{number, spelt, count, fixed, flag, bit}
-use Rattle.format.specs.Each.{listed, counted}
+use Rattle.format.specs.ReadWrite.{pairWrite, spelt, bit}
+use Rattle.format.specs.Combinators.{pair, seq, _then_, judged, via, number, count, fixed, flag, listed, counted}
 use Rattle.format.specs.Seen.{seen, told, itself, none}
 use Rattle.date.specs.Double.{accepted}
 use Rattle.element.specs.Data.{Data, Limit, oneZero, limit, wordData, sizeData, dateData, dataOf, wordsOf, sizesOf, spanOf}

@@ -6,7 +6,7 @@ use kind::Kind;
 use kind::Row;
 ghost use mathlib.Core.Path.{_≡_};
 ghost use lib.Ieee.{binary64, ofBits};
-ghost use Rattle.format.specs.Number.{number};
+ghost use Rattle.format.specs.Combinators.{number};
 ghost use Rattle.format.specs.Seen.{seen, itself};
 ghost use Rattle.date.specs.Date.{date};
 ghost use Rattle.value.specs.Value.{valueOf, fromKind};

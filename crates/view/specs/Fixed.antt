@@ -12,7 +12,8 @@ use Rattle.format.specs.declared.Outcome.the-variants as Outcome
 use Rattle.format.specs.declared.Read.{Read}
 use Rattle.format.specs.declared.Read.the-variants as Read
 use Rattle.format.specs.Format.{pick}
-use Rattle.format.specs.Number.{number, bit}
+use Rattle.format.specs.ReadWrite.{bit}
+use Rattle.format.specs.Combinators.{number}
 use Rattle.format.specs.Seen.{seen, itself}
 use Rattle.format.specs.Back.{Where, back-got, stands-room}
 use Rattle.rule.specs.Rule.{Rule, rule}

@@ -8,7 +8,8 @@ use Rattle.format.specs.declared.Fault.{Fault}
 use Rattle.format.specs.declared.Fault.the-variants as Fault
 use Rattle.format.specs.declared.Read.{Read}
 use Rattle.format.specs.declared.Read.the-variants as Read
-use Rattle.format.specs.Number.{number, length-spelt}
+use Rattle.format.specs.Laws.ReadWrite.{length-spelt}
+use Rattle.format.specs.Combinators.{number}
 use Rattle.format.specs.Seen.{seen, itself}
 use Rattle.format.specs.Written.{Row}
 use Rattle.format.specs.Back.{Where, stands-seen, stands-room, back-got, back-no}

@@ -7,7 +7,8 @@ use lib.ListN.{length, drop}
 use Rattle.format.specs.declared.Fault.{Fault}
 use Rattle.format.specs.declared.Read.{Read}
 use Rattle.format.specs.declared.Read.the-variants.{Got, No}
-use Rattle.format.specs.Number.{number, length-spelt}
+use Rattle.format.specs.Laws.ReadWrite.{length-spelt}
+use Rattle.format.specs.Combinators.{number}
 use Rattle.format.specs.Seen.{seen, itself, none, unlike}
 use Rattle.format.specs.Written.{Stands, Held}
 use Rattle.format.specs.Back.{Where, stands-seen, stands-room, back-got, back-no}

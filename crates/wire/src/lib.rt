@@ -4,7 +4,8 @@ use format::Read;
 ghost use mathlib.Core.Path.{_≡_};
 ghost use Prim.Native.Nat.{_+_, _-_, _*_, _<_, _≤_, _^_};
 ghost use lib.ListN.{length, take, drop};
-ghost use Rattle.format.specs.Number.{value, number, fixed};
+ghost use Rattle.format.specs.ReadWrite.{value};
+ghost use Rattle.format.specs.Combinators.{number, fixed};
 ghost use Rattle.format.specs.Seen.{seen, itself, none};
 
 // The bytes at a place that has them, the lowest first.

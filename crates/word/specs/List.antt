@@ -12,9 +12,9 @@ use Rattle.format.specs.declared.Fault.the-variants as Fault
 use Rattle.format.specs.declared.Read.{Read}
 use Rattle.format.specs.declared.Read.the-variants.{Got, No}
 use Rattle.format.specs.Format.{pick}
-use Rattle.format.specs.Join.{pair, pairWrite, judged, via, seq, _then_}
-use Rattle.format.specs.Number.{number, spelt, length-spelt, fixed, count}
-use Rattle.format.specs.Each.{each, eachWrite, counted, listed}
+use Rattle.format.specs.ReadWrite.{pairWrite, spelt, eachWrite}
+use Rattle.format.specs.Laws.ReadWrite.{length-spelt}
+use Rattle.format.specs.Combinators.{pair, judged, via, seq, _then_, number, fixed, count, each, counted, listed}
 use Rattle.format.specs.Seen.{seen, itself, unlike}
 use Rattle.format.specs.Written.{Held}
 use Rattle.format.specs.Back.{Where, back-got, back-no}

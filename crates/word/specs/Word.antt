@@ -13,9 +13,9 @@ use Rattle.format.specs.declared.Outcome.the-variants as Outcome
 use Rattle.format.specs.declared.Read.{Read}
 use Rattle.format.specs.declared.Read.the-variants as Read
 use Rattle.format.specs.Format.{Bytes}
-use Rattle.format.specs.Join.{pair, pairWrite, judged, via, seq, _then_}
-use Rattle.format.specs.Number.{number, spelt, length-spelt, fixed}
-use Rattle.format.specs.Each.{eachWrite, each-append}
+use Rattle.format.specs.ReadWrite.{pairWrite, spelt, eachWrite}
+use Rattle.format.specs.Laws.ReadWrite.{length-spelt, each-append}
+use Rattle.format.specs.Combinators.{pair, judged, via, seq, _then_, number, fixed}
 use Rattle.format.specs.Back.{Where}
 use Rattle.text.specs.Text.{string, word}
 use Rattle.kind.specs.declared.Product.{Product}

@@ -1,4 +1,4 @@
-use Rattle.format.specs.Number.{bit}
+use Rattle.format.specs.ReadWrite.{bit}
 use Rattle.format.specs.Format.{pick}
 use borrow.Author.Needs.{needs}
 use Rattle.buffer.proofs.put_flag.Statement.{statement}

@@ -1,5 +1,5 @@
 use native.Mathlib.Omega.{arith}
-use Rattle.format.specs.Number.{length-spelt}
+use Rattle.format.specs.Laws.ReadWrite.{length-spelt}
 use Rattle.buffer.specs.Laid.{put-out}
 use Rattle.buffer.proofs.Parts.{put-tail}
 use borrow.Author.Needs.{needs}

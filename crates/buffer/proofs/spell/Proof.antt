@@ -3,7 +3,7 @@ use native.Mathlib.Omega.{arith}
 use mathlib.Core.Path.{_≡_, refl}
 use lib.ListN.{length, length-set}
 use borrow.Author.Needs.{needs}
-use Rattle.format.specs.Number.{spelt}
+use Rattle.format.specs.ReadWrite.{spelt}
 use Rattle.buffer.specs.Laid.{put}
 use Rattle.buffer.proofs.Loops.{spell-first, spell-next, spell-last}
 use Rattle.buffer.proofs.spell.Statement.{statement}

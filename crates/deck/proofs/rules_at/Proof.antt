@@ -3,7 +3,7 @@ use native.Mathlib.Omega.{arith}
 use mathlib.Core.Path.{_≡_}
 use borrow.Author.Needs.{needs}
 use Rattle.format.specs.Format.{bytes-all}
-use Rattle.format.specs.Each.{each}
+use Rattle.format.specs.Combinators.{each}
 use Rattle.format.specs.Seen.{seen}
 use Rattle.format.specs.Rows.{total, added, sum-start, sum-go, sum-stop, sum-done}
 use Rattle.rule.specs.Rule.{rule, elementsIn, rule-small}

@@ -1,4 +1,4 @@
-use Rattle.format.specs.Number.{flag}
+use Rattle.format.specs.Combinators.{flag}
 use Rattle.format.specs.Seen.{reading}
 use borrow.Author.Needs.{needs}
 use Rattle.field.proofs.flag_at.Statement.{statement}

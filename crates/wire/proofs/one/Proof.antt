@@ -1,5 +1,5 @@
 use native.Mathlib.Omega.{arith}
-use Rattle.format.specs.Number.{value-one}
+use Rattle.format.specs.Laws.ReadWrite.{value-one}
 use borrow.Author.Needs.{needs}
 use Rattle.wire.proofs.one.Statement.{statement}
 use Rattle.wire.proofs.one.Tie as tie
