@@ -1,5 +1,5 @@
 -- Demand 2: what is read, written again, gives the same bytes; what is written reads back as given; an identifier is judged on all 32 bits
--- and by the product.
+-- and by the product. Of tables and views: Tables.antt, Views.antt.
 use Prim.Native.Nat.{ℕ, zero, suc, _+_, _≤_, _<_}
 use native.Mathlib.Nat.{add-zero, zero-add}
 use native.Mathlib.Omega.{arith}

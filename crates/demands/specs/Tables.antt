@@ -1,0 +1,171 @@
+-- Demand 2, of tables: each rule and each element of the list of rules that was read has its row, and the bytes between the places of a row are
+-- that rule, or those data, as written.
+use Prim.Native.Nat.{ℕ, zero, suc, _+_, _*_, _≤_}
+use native.Mathlib.Nat.{add-zero, zero-add, add-assoc}
+use native.Mathlib.Omega.{arith}
+use mathlib.Core.Path.{_≡_, refl, ap, _∙_}
+use mathlib.Core.Bool.{Bool, true, false}
+use mathlib.Core.List.{List, [], _∷_, _++_, append-assoc}
+use lib.Dec.{leb, eqb}
+use lib.ListN.{length, take, drop, length-append, length-drop}
+use lib.Seq.{drop-append-seam, drop-drop, length-take-le}
+use borrow.Author.Tests.{le-leb}
+use Rattle.format.specs.declared.Fault.the-variants as Fault
+use Rattle.format.specs.declared.Outcome.the-variants.{Done, No}
+use Rattle.format.specs.Format.{Format, Answer, got, refused, Bytes, pick}
+use Rattle.format.specs.Join.{pair, pairWrite, via, judged, seq, _then_}
+use Rattle.format.specs.Number.{number, fixed, length-spelt}
+use Rattle.format.specs.Each.{eachWrite}
+use Rattle.format.specs.Rows.{total}
+use Rattle.format.specs.Skip.{startIn}
+use Rattle.kind.specs.declared.Product.{Product}
+use Rattle.kind.specs.declared.Edition.{Edition}
+use Rattle.kind.specs.declared.Edition.the-variants as Edition
+use Rattle.kind.specs.Kinds.{kinds, rowIn, editionOf}
+use Rattle.element.specs.Element.{Element, dataBy, element, identifier}
+use Rattle.rule.specs.Rule.{Rule, rule, placed, separator, elementsIn}
+use Rattle.rule.specs.Places.{ruleBytes, unitsAt, elementsAt, dataAt, rule-parts, placed-parts}
+use Rattle.deck.specs.Deck.{readAs}
+use Rattle.deck.specs.Written.{startOf, start-as}
+use Rattle.tables.specs.Tables.{rowsOf, ruleWidth, elementWidth, ruleRow, ruleRows, elementRow, ruleElementRows, allElementRows, inTables, tabled, filled, readSays, rulesAfter, elementsAfter}
+use Rattle.tables.specs.Fill.{total-one}
+use Rattle.tables.specs.Parts.{element-rows-long, rule-rows-long, all-rows-long}
+use Rattle.demands.specs.Places.{Between, UnitsOf, elementStart, between, string-units, rule-stands, element-stands}
+
+-- "Per rule, four: start, end, first byte of the name's units, number of elements": a row of rule k of rs, which is r
+pub record RuleRow (p : Product) (s : List ℕ) (rs : List Rule) (k : ℕ) (r : Rule) (row : List ℕ) : Type 0 where
+  pub start : ℕ
+  pub end : ℕ
+  pub units : ℕ
+  pub is : row ≡ start ∷ end ∷ units ∷ length (r .elements) ∷ []
+  pub starts : start ≡ startOf rs k
+  pub written : Between s start end (rule p k .write r)
+  pub named : UnitsOf (r .name) (take (2 * length (r .name)) (drop units s))
+
+-- "Per element, four: identifier, rule number, start and end of data": a row of element i of rule k of rs, which are x and r
+pub record ElementRow (p : Product) (s : List ℕ) (rs : List Rule) (k : ℕ) (r : Rule) (i : ℕ) (x : Element) (row : List ℕ) : Type 0 where
+  pub start : ℕ
+  pub end : ℕ
+  pub is : row ≡ x .0 ∷ k ∷ start ∷ end ∷ []
+  pub starts : start ≡ dataAt i (elementStart p rs k r i)
+  pub written : Between s start end (dataBy (rowIn kinds (x .0)) .write (x .1))
+
+-- ---- rows of four numbers, f x of them for each x
+module _ {A : Type 0} (a : ℕ → Format A) (row : ℕ → ℕ → A → List ℕ) (f : A → ℕ) (long : (i at : ℕ) (x : A) → length (row i at x) ≡ 4 * f x) where
+  -- those of value k stand behind those of the values before it
+  rows-from : (i at k : ℕ) (xs : List A) {x : A} {ys : List A} (t : List ℕ) → drop k xs ≡ x ∷ ys
+      → (u : List ℕ) × (drop (4 * total f (take k xs)) (rowsOf a row i at xs ++ t) ≡ row (i + k) (at + length (eachWrite a i (take k xs))) x ++ u)
+  unfolding rowsOf total eachWrite
+  rows-from i at zero [] t d = absurd (let z : _≡_ {A = ℕ} 0 1 = cc in omega arith)
+  rows-from i at zero (y ∷ xs) {x} t d =
+      let z : y ≡ x = cc in
+      let rest = rowsOf a row (i + 1) (at + length (a i .write y)) xs in
+      (rest ++ t, rw (add-zero i, add-zero at, ← z) (append-assoc (row i at y) rest t))
+  rows-from i at (suc k) [] t d = absurd (let z : _≡_ {A = ℕ} 0 1 = cc in omega arith)
+  rows-from i at (suc k) (y ∷ xs) t d =
+      let w = a i .write y in
+      let ws = eachWrite a (i + 1) (take k xs) in
+      let v = rows-from (i + 1) (at + length w) k xs t d in
+      let m : 4 * (f y + total f (take k xs)) ≡ length (row i at y) + 4 * total f (take k xs) = omega (arith, long i at y) in
+      let ei : i + 1 + k ≡ i + suc k = omega arith in
+      let ea : at + length w + length ws ≡ at + length (w ++ ws) = omega (arith, length-append w ws) in
+      (v .0, rw (m, append-assoc, ← drop-drop, drop-append-seam, ← ei, ← ea) (v .1))
+
+  rows-at : (at k : ℕ) (xs : List A) {x : A} {ys : List A} (t : List ℕ) → drop k xs ≡ x ∷ ys → (u : List ℕ) × (drop (4 * total f (take k xs)) (rowsOf a row 0 at xs ++ t) ≡ row k (startIn a at xs k) x ++ u)
+  unfolding startIn
+  rows-at at k xs t d = let z : 0 + k ≡ k = zero-add k in rw z at (rows-from 0 at k xs t d)
+
+-- one for each
+row-at : {A : Type 0} (a : ℕ → Format A) (row : ℕ → ℕ → A → List ℕ) → ((i at : ℕ) (x : A) → length (row i at x) ≡ 4) → (at k : ℕ) (xs : List A) {x : A} {ys : List A} (t : List ℕ) → drop k xs ≡ x ∷ ys
+    → (u : List ℕ) × (drop (4 * k) (rowsOf a row 0 at xs ++ t) ≡ row k (startIn a at xs k) x ++ u)
+row-at a row long at k xs t d =
+    let z : total (λ x. 1) (take k xs) ≡ k = total-one (take k xs) ∙ length-take-le k xs (omega (arith, length-drop k xs, ap length d)) in
+    rw z at (rows-at a row (λ x. 1) long at k xs t d)
+
+-- an element's data end where it ends
+placed-long : (p : Product) (i : ℕ) (x : Element) → length (placed p i .write x) ≡ pick (eqb i 0) 4 6 + length (dataBy (rowIn kinds (x .0)) .write (x .1))
+unfolding placed pick element identifier _then_ seq via pair pairWrite judged number fixed
+placed-long p i x = go (eqb i 0)
+  where
+    go : (b : Bool) → length (pick b (element p) (separator then element p) .write x) ≡ pick b 4 6 + length (dataBy (rowIn kinds (x .0)) .write (x .1))
+    go true = simp (length-append, length-spelt)
+    go false = simp (length-append, length-spelt) (omega arith)
+
+-- ---- a read that is done has read a list of rules, and answers their number
+pub record Accepted (edition : ℕ) (s : List ℕ) (m : ℕ) : Type 0 where
+  pub product : Product
+  pub names : editionOf edition ≡ Edition.Of product
+  pub rules : List Rule
+  pub ends : ℕ
+  pub is : readAs product s ≡ got rules ends
+  pub many : m ≡ length rules
+
+pub done-has-read : (edition : ℕ) (s : List ℕ) (rules elements m : ℕ) → readSays (editionOf edition) rules elements s ≡ Done m → Accepted edition s m
+unfolding inTables pick
+done-has-read edition s rules elements m = by (editionOf edition) refl
+  where
+    room : (x y : Bool) {c : ℕ} → pick x (pick y (Done c) (No Fault.Table 1)) (No Fault.Table 0) ≡ Done m → m ≡ c
+    room true true d = cc
+    room true false d = absurd (let z : _≡_ {A = ℕ} 0 1 = cc in omega arith)
+    room false y d = absurd (let z : _≡_ {A = ℕ} 0 1 = cc in omega arith)
+
+    of : (p : Product) → editionOf edition ≡ Edition.Of p → (a : Answer (List Rule)) → readAs p s ≡ a → tabled rules elements a ≡ Done m → Accepted edition s m
+    of p ed (got rs n) e d = record { product = p; names = ed; rules = rs; ends = n; is = e; many = room (leb (ruleWidth * length rs) rules) (leb (elementWidth * total elementsIn rs) elements) d }
+    of p ed (refused c q) e d = absurd (let z : _≡_ {A = ℕ} 0 1 = cc in omega arith)
+
+    by : (o : Edition) → editionOf edition ≡ o → readSays o rules elements s ≡ Done m → Accepted edition s m
+    by (Edition.Of p) ed d = of p ed (readAs p s) refl d
+    by Edition.Unknown ed d = absurd (let z : _≡_ {A = ℕ} 0 1 = cc in omega arith)
+
+-- ---- the deck s was read as the rules rs, and the tables that were lent are rules and elements
+module _ (edition : ℕ) (p : Product) (ed : editionOf edition ≡ Edition.Of p) (s : List ℕ) (rs : List Rule) (n : ℕ) (bs : Bytes s) (e : readAs p s ≡ got rs n) (rules elements : List ℕ) where
+  -- with room in both the read is done, and answers the number of rules
+  pub read-is-done : ruleWidth * length rs ≤ length rules → elementWidth * total elementsIn rs ≤ length elements → readSays (editionOf edition) (length rules) (length elements) s ≡ Done (length rs)
+  unfolding inTables pick
+  read-is-done h g = rw (ed, e, le-leb _ _ h, le-leb _ _ g)
+
+  -- it is done
+  module _ (m : ℕ) (done : readSays (editionOf edition) (length rules) (length elements) s ≡ Done m) where
+    now : (rulesAfter (editionOf edition) s rules elements ≡ filled (ruleRows p 0 7 rs) rules) × (elementsAfter (editionOf edition) s rules elements ≡ filled (allElementRows p 0 7 rs) elements)
+    now = let d = rw (ed, e) at done in rw (ed, e, d) (refl, refl)
+
+    -- every rule has its row
+    pub rule-has-row : (k : ℕ) {r : Rule} {later : List Rule} → drop k rs ≡ r ∷ later → RuleRow p s rs k r (take ruleWidth (drop (ruleWidth * k) (rulesAfter (editionOf edition) s rules elements)))
+    rule-has-row k {r} is-r =
+        let at = startOf rs k in
+        let h = rule-stands p s rs n bs e k is-r in
+        let q = row-at (rule p) (ruleRow p) (λ i at x. refl) 7 k rs (drop (length (ruleRows p 0 7 rs)) rules) is-r in
+        record {
+          start = at;
+          end = at + ruleBytes p k r;
+          units = unitsAt at r;
+          is = rw (now .0, q .1, start-as);
+          starts = refl;
+          written = between (rule p k) s at (h .1);
+          named = string-units s (at + 4) (rule-parts p k s at r (h .0) (h .1) .named .1);
+        }
+
+    -- every element has its row, behind those of the rules before its own
+    pub element-has-row : (k : ℕ) {r : Rule} {later : List Rule} → drop k rs ≡ r ∷ later → (i : ℕ) {x : Element} {others : List Element} → drop i (r .elements) ≡ x ∷ others
+        → ElementRow p s rs k r i x (take elementWidth (drop (elementWidth * (total elementsIn (take k rs) + i)) (elementsAfter (editionOf edition) s rules elements)))
+    element-has-row k {r} is-r i {x} is-x =
+        let at = dataAt i (elementStart p rs k r i) in
+        let form = dataBy (rowIn kinds (x .0)) in
+        let h = element-stands p s rs n bs e k is-r i is-x in
+        let q = rows-at (rule p) (ruleElementRows p) elementsIn (λ j a y. element-rows-long p j (elementsAt p j a y) (y .elements)) 7 k rs (drop (length (allElementRows p 0 7 rs)) elements) is-r in
+        let o = row-at (placed p) (elementRow p k) (λ j a y. refl) (elementsAt p k (startOf rs k) r) i (r .elements) (q .0) is-x in
+        let z : elementWidth * (total elementsIn (take k rs) + i) ≡ elementWidth * total elementsIn (take k rs) + elementWidth * i = omega arith in
+        record {
+          start = at;
+          end = at + length (form .write (x .1));
+          is = rw (now .1, z, ← drop-drop, q .1, start-as, o .1, placed-long, ← add-assoc);
+          starts = refl;
+          written = between form s at (placed-parts p i s (elementStart p rs k r i) x (h .0) (h .1) .carries);
+        }
+
+    -- there are no other rows: "Later entries stay as they were"
+    pub no-other-rule : drop (ruleWidth * length rs) (rulesAfter (editionOf edition) s rules elements) ≡ drop (ruleWidth * length rs) rules
+    no-other-rule = let l = rule-rows-long p 7 rs in rw (now .0, ← l) (drop-append-seam (ruleRows p 0 7 rs) _)
+
+    pub no-other-element : drop (elementWidth * total elementsIn rs) (elementsAfter (editionOf edition) s rules elements) ≡ drop (elementWidth * total elementsIn rs) elements
+    no-other-element = let l = all-rows-long p 7 rs in rw (now .1, ← l) (drop-append-seam (allElementRows p 0 7 rs) _)
