@@ -6,9 +6,9 @@ use mathlib.Core.List.{List, [], _∷_, _++_, append-assoc}
 use lib.ListN.{length, take, drop, length-append, length-drop}
 use lib.Seq.{take-append-seam}
 use Rattle.format.specs.Format.{Format, Bytes, got}
-use Rattle.format.specs.Join.{pair, pairWrite, via, judged, seq, _then_, atStart}
-use Rattle.format.specs.Number.{number, fixed, spelt, length-spelt}
-use Rattle.format.specs.Each.{each, eachWrite, AllFit, counted, listed}
+use Rattle.format.specs.ReadWrite.{pairWrite, spelt, eachWrite, AllFit}
+use Rattle.format.specs.Laws.ReadWrite.{length-spelt}
+use Rattle.format.specs.Combinators.{pair, via, judged, seq, _then_, atStart, number, fixed, each, counted, listed}
 use Rattle.format.specs.Written.{behind, Stands, Held, Row}
 use Rattle.format.specs.Skip.{startIn, nth}
 use Rattle.text.specs.Text.{stringLength, string, string-length, word}

@@ -13,9 +13,9 @@ use borrow.Author.Tests.{le-leb}
 use Rattle.format.specs.declared.Fault.the-variants as Fault
 use Rattle.format.specs.declared.Outcome.the-variants.{Done, No}
 use Rattle.format.specs.Format.{Format, Answer, got, refused, Bytes, pick}
-use Rattle.format.specs.Join.{pair, pairWrite, via, judged, seq, _then_}
-use Rattle.format.specs.Number.{number, fixed, length-spelt}
-use Rattle.format.specs.Each.{eachWrite}
+use Rattle.format.specs.ReadWrite.{pairWrite, eachWrite}
+use Rattle.format.specs.Laws.ReadWrite.{length-spelt}
+use Rattle.format.specs.Combinators.{pair, via, judged, seq, _then_, number, fixed}
 use Rattle.format.specs.Rows.{total}
 use Rattle.format.specs.Skip.{startIn}
 use Rattle.kind.specs.declared.Product.{Product}
