@@ -32,10 +32,12 @@ pub fn all_identifiers() -> File {
     file
 }
 
-/// The bits around these.
-fn around(date: f64) -> [u64; 3] {
+/// A date, and the numbers just below and above its bits.
+fn call_around(file: &mut File, date: f64) {
     let bits = date.to_bits();
-    [bits.wrapping_sub(1), bits, bits.wrapping_add(1)]
+    for near in [bits.wrapping_sub(1), bits, bits.wrapping_add(1)] {
+        file.call(DATE, &[near], &[]);
+    }
 }
 
 pub fn all_dates() -> File {
@@ -44,13 +46,13 @@ pub fn all_dates() -> File {
     let days = [0.0, -0.0, 1.0, -1.0, 59.0, 60.0, 61.0, 62.0, 366.0, 367.0, 36_525.0, 36_526.0, 36_585.0, 36_586.0];
     let far = [73_110.0, 73_111.0, 693_596.0, -109_207.0, -109_206.0, -621_049.0, -657_434.5, -657_434.999_99];
     for date in document.iter().chain(&days).chain(&far) {
-        around(*date).iter().for_each(|&bits| drop(file.call(DATE, &[bits], &[])));
+        call_around(&mut file, *date);
     }
     for second in [1.0, 2.0, 59.0, 60.0, 3_599.0, 3_600.0, 43_199.0, 43_200.0, 86_398.0, 86_399.0] {
         for day in [0.0, 1.0, 40_000.0, 2_958_465.0] {
             let date: f64 = day + second / 86_400.0;
-            around(date).iter().for_each(|&bits| drop(file.call(DATE, &[bits], &[])));
-            around(-date.min(657_434.9)).iter().for_each(|&bits| drop(file.call(DATE, &[bits], &[])));
+            call_around(&mut file, date);
+            call_around(&mut file, -date.min(657_434.9));
         }
     }
     let exponent = 0x7FF0_0000_0000_0000;
@@ -60,8 +62,12 @@ pub fn all_dates() -> File {
         file.call(DATE, &[bits + sign], &[]);
     }
     let mut r = Random::new(1);
-    (0..200).for_each(|_| drop(file.call(DATE, &[random::good_date(&mut r)], &[])));
-    (0..60).for_each(|_| drop(file.call(DATE, &[random::any_date(&mut r)], &[])));
+    for _ in 0..200 {
+        file.call(DATE, &[random::good_date(&mut r)], &[]);
+    }
+    for _ in 0..60 {
+        file.call(DATE, &[random::any_date(&mut r)], &[]);
+    }
     file
 }
 

@@ -3,104 +3,103 @@ use format::Outcome;
 use libc::STDIN_FILENO;
 use libc::STDOUT_FILENO;
 use view::Fielded;
-ghost use Prim.Native.Nat.{_<_, _^_};
-
-fn word(text: &[u8]) {
-    io::write_all(STDOUT_FILENO, text);
-}
-
-fn number(n: u64) {
-    io::write_all(STDOUT_FILENO, b" ");
-    io::print_decimal(STDOUT_FILENO, n);
-}
-
-// A hexadecimal digit in upper case.
-fn digit(n: u64) -> u8 {
-    let d = (n % 16) as u8;
-    if d < 10 { 48 + d } else { 55 + d }
-}
-
-fn identifier(n: u64) {
-    let high = [
-        b' ',
-        digit(n / 0x1000_0000),
-        digit(n / 0x100_0000),
-        digit(n / 0x10_0000),
-        digit(n / 0x1_0000),
-    ];
-    let low = [
-        digit(n / 0x1000),
-        digit(n / 0x100),
-        digit(n / 0x10),
-        digit(n),
-    ];
-    io::write_all(STDOUT_FILENO, &high);
-    io::write_all(STDOUT_FILENO, &low);
-}
+use view::View;
+ghost use Prim.Native.Nat.{_≤_, _<_, _^_};
+ghost use mathlib.Core.Path.{_≡_};
+ghost use lib.ListN.{length};
+ghost use Rattle.view.specs.Fixed.{fixedFields};
+ghost use Rattle.view.specs.View.{nameView};
+ghost use Rattle.line.specs.Adds.{Lined};
+ghost use Rattle.lister.specs.Rows.{entry as Rows·entry, isOn, unitsOf, ruleRow, elementRow};
 
 // Number j of row i of a table of rows of four.
-fn entry(table: &[u32], i: usize, j: usize) -> u64
+fn entry(table: &[u32], i: usize, j: usize) -> u32
     requires { ⌜ (i < 2 ^ 49) × (j < 4) ⌝ }
-    ensures { λ r. ⌜ r < 2 ^ 32 ⌝ }
+    ensures { λ r. ⌜ r ≡ Rows·entry (now (table .entry)) i j ⌝ }
 {
     let at = 4 * i + j;
     if at < table.len() {
-        return wide(table[at]);
+        return table[at];
     }
     0
 }
 
-fn wide(n: u32) -> u64
-    ensures { λ r. ⌜ r < 2 ^ 32 ⌝ }
+fn is_on(s: &[u8], k: u64) -> bool
+    ensures { λ r. ⌜ r ≡ isOn (fixedFields 2 k (now (s .entry))) ⌝ }
 {
-    n as u64
-}
-
-// Element j of its rule is row i.
-fn list_element(elements: &[u32], i: usize, j: usize)
-    requires { ⌜ i < 2 ^ 49 ⌝ }
-{
-    let start = entry(elements, i, 2);
-    let end = entry(elements, i, 3);
-    word(b"ELEM");
-    number(j as u64);
-    identifier(entry(elements, i, 0));
-    if start <= end {
-        number(end - start);
-    }
-    word(b"\n");
-}
-
-fn is_on(s: &[u8], k: usize) -> bool {
-    let f = view::fixed(2, s, k as u64);
+    let f = view::fixed(2, s, k);
     match f {
         Fielded::Is(fields) => fields.on,
         Fielded::No(_, _) => false,
     }
 }
 
+fn units(s: &[u8], k: u64) -> usize
+    ensures { λ r. ⌜ r ≡ unitsOf (nameView 2 k (now (s .entry))) ⌝ }
+{
+    let v = view::find_name(2, s, k);
+    match v {
+        View::At(_, n) => n / 2,
+        View::No(_, _) => 0,
+    }
+}
+
+fn rule_line(line: &mut [u8; 96], s: &[u8], rules: &[u32], k: usize) -> usize
+    requires { ⌜ k < 2 ^ 49 ⌝ }
+    ensures { λ r. ⌜ Lined (now (line .entry)) (ruleRow (now (s .entry)) (now (rules .entry)) k) r (now (line .exit)) ⌝ }
+{
+    let on = is_on(s, k as u64);
+    let n = units(s, k as u64);
+    let elements = entry(rules, k, 3);
+    line::rule(line, k as u64, on, n as u64, elements as u64)
+}
+
+// Row i is element j of its rule.
+fn element_line(line: &mut [u8; 96], elements: &[u32], i: usize, j: usize) -> usize
+    requires { ⌜ i < 2 ^ 49 ⌝ }
+    ensures { λ r. ⌜ Lined (now (line .entry)) (elementRow (now (elements .entry)) i j) r (now (line .exit)) ⌝ }
+{
+    let identifier = entry(elements, i, 0);
+    let start = entry(elements, i, 2);
+    let end = entry(elements, i, 3);
+    if end < start {
+        return line::element(line, j as u64, identifier, 0);
+    }
+    line::element(line, j as u64, identifier, (end - start) as u64)
+}
+
+// The first n bytes of a line's buffer.
+fn print(line: &[u8], n: usize)
+    requires { ⌜ n ≤ length (now line) ⌝ }
+{
+    io::write_all(STDOUT_FILENO, &line[..n]);
+}
+
+fn print_rule(s: &[u8], rules: &[u32], k: usize)
+    requires { ⌜ k < 2 ^ 49 ⌝ }
+{
+    let mut text = [0u8; 96];
+    let n = rule_line(&mut text, s, rules, k);
+    print(&text, n);
+}
+
+fn print_element(elements: &[u32], i: usize, j: usize)
+    requires { ⌜ i < 2 ^ 49 ⌝ }
+{
+    let mut text = [0u8; 96];
+    let n = element_line(&mut text, elements, i, j);
+    print(&text, n);
+}
+
+// The n elements of a rule, whose rows are those from first on.
 fn list_elements(elements: &[u32], first: usize, n: usize)
     requires { ⌜ (first < 2 ^ 48) × (n < 2 ^ 32) ⌝ }
 {
     let mut j = 0;
     while j < n {
-        list_element(elements, first + j, j);
+        print_element(elements, first + j, j);
         j += 1;
     }
-}
-
-fn list_rule(s: &[u8], k: usize, n: usize) {
-    word(b"RULE");
-    number(k as u64);
-    if is_on(s, k) {
-        word(b" ON");
-    } else {
-        word(b" OFF");
-    }
-    let name = view::name(2, s, k as u64);
-    number((name.len() / 2) as u64);
-    number(n as u64);
-    word(b"\n");
 }
 
 // The rules, each with its elements behind it; answers how many elements there were.
@@ -112,7 +111,7 @@ fn list_rules(s: &[u8], count: usize, rules: &[u32], elements: &[u32]) -> usize 
             return i;
         }
         let n = entry(rules, k, 3) as usize;
-        list_rule(s, k, n);
+        print_rule(s, rules, k);
         list_elements(elements, i, n);
         i += n;
         k += 1;
@@ -121,21 +120,18 @@ fn list_rules(s: &[u8], count: usize, rules: &[u32], elements: &[u32]) -> usize 
 }
 
 fn list(s: &[u8], count: usize, rules: &[u32], elements: &[u32]) {
-    word(b"DECK 1");
-    number(s.len() as u64);
-    word(b"\n");
+    let mut text = [0u8; 96];
+    let n = line::deck(&mut text, s.len() as u64);
+    print(&text, n);
     let all = list_rules(s, count, rules, elements);
-    word(b"END");
-    number(count as u64);
-    number(all as u64);
-    word(b"\n");
+    let n = line::end(&mut text, count as u64, all as u64);
+    print(&text, n);
 }
 
 fn refused(code: u64, place: usize) {
-    word(b"REFUSED");
-    number(code);
-    number(place as u64);
-    word(b"\n");
+    let mut text = [0u8; 96];
+    let n = line::refused(&mut text, code, place as u64);
+    print(&text, n);
 }
 
 fn main() {
