@@ -25,6 +25,7 @@ use Rattle.deck.specs.declared.Scan.{Scan}
 use Rattle.deck.specs.declared.Scan.the-variants as Scan
 use Rattle.deck.specs.Deck.{readAs, readBy, readDeck, answered, scanned}
 use Rattle.plan.specs.Edit.{Edit, switch, rename, remove, insert, addRule, addElement, addWord, Plan, become, refuse, refuseGiven, planned, says}
+use Rattle.plan.specs.Given.{given}
 use Rattle.plan.specs.Found.{Edits}
 use Rattle.tables.specs.Tables.{ruleWidth, elementWidth, inTables, tabled, readSays}
 use Rattle.view.specs.declared.View.{View}
@@ -35,10 +36,10 @@ use Rattle.view.specs.Asked.{asked, askedBy, askedOf, askedFirst}
 use Rattle.view.specs.View.{nameAt, nameView, viewSays}
 use Rattle.view.specs.Word.{wordAt, elementWord, ruleWord, wordView}
 use Rattle.view.specs.Fixed.{fixedAt, fixedFields, fieldsSay}
-use Rattle.bounds.specs.Refused.{Only, NotLarge, Own, Judges, OfGiven, only-planned}
+use Rattle.bounds.specs.Refused.{Only, NotLarge, refused-as, as-refused, Own, Judges, OfGiven, only-planned}
 use Rattle.bounds.specs.Places.{Lent}
 use Rattle.bounds.specs.Listed.{Numbers, allowed, Lists, allowed-first, allowed-later, numbers, exactly}
-use Rattle.bounds.specs.Faulty.{deck-faulty, edition-listed, faulty-listed, elementNumbers, element-listed}
+use Rattle.bounds.specs.Faulty.{Faulty, deck-faulty, edition-listed, faulty-listed, elementNumbers, ElementListed, element-listed}
 
 -- "The deck check is a read without tables, so without 14"
 abbrev pub checkNumbers : List Numbers
@@ -50,7 +51,7 @@ check-listed edition s = by (editionOf edition)
   where
     read : (p : Product) (a : Answer (List Rule)) → readAs p s ≡ a → Lists checkNumbers (answered a)
     read p (got rs n) e = tt
-    read p (refused c q) e = faulty-listed [] c q (deck-faulty p s c q e)
+    read p (refused c q) e = faulty-listed [] c q (as-refused Faulty (deck-faulty p s) e)
 
     by : (o : Edition) → Lists checkNumbers (answered (readBy o s))
     by (Edition.Of p) = read p (readAs p s) refl
@@ -83,7 +84,7 @@ read-listed edition rules elements s = by (editionOf edition)
         few true true = tt
         few true false = (refl, omega arith)
         few false y = (refl, omega arith)
-    read p (refused c q) e = faulty-listed (numbers 14 14 1 ∷ []) c q (deck-faulty p s c q e)
+    read p (refused c q) e = faulty-listed (numbers 14 14 1 ∷ []) c q (as-refused Faulty (deck-faulty p s) e)
 
     by : (o : Edition) → Lists readNumbers (readSays o rules elements s)
     by (Edition.Of p) = read p (readAs p s) refl
@@ -108,7 +109,7 @@ module _ {W : Type 0} (no : Fault → ℕ → W) (f : Product → ℕ → Rule �
 
       read : (p : Product) (a : Answer (List Rule)) → readAs p s ≡ a → Q (askedOf no f k p a)
       read p (got rs n) e = first p _ (drop k rs)
-      read p (refused c q) e = says-no c q (faulty-listed (numbers 16 16 last ∷ []) c q (deck-faulty p s c q e))
+      read p (refused c q) e = says-no c q (faulty-listed (numbers 16 16 last ∷ []) c q (as-refused Faulty (deck-faulty p s) e))
 
       by : (o : Edition) → Q (askedBy no f k o s)
       by (Edition.Of p) = read p (readAs p s) refl
@@ -186,18 +187,18 @@ unfolding Lent
 given-listed p (switch k on) h = tt
 given-listed p (rename k name) h = tt
 given-listed p (remove k) h = tt
-given-listed p (insert k second j) h = λ c q e.
-    let f = deck-faulty p second c q e in
+given-listed p (insert k second j) h = refused-as (GivenListed (insert k second j)) (readAs p second) (λ c q e.
+    let f = as-refused Faulty (deck-faulty p second) e in
     let w = within-is 2 13 (numberOf c) (f .0) in
-    (own-allowed (insert k second j) (numberOf c + 32) q (allowed-first 34 45 60000 (numbers 16 16 1 ∷ []) (numberOf c + 32) q (omega arith) (omega arith) (f .1 .0)), f .1 .1)
-given-listed p (addRule name g id s) h = λ c q e. let f = element-listed p id s h c q e in (own-allowed (addRule name g id s) (numberOf c + 32) q (allowed-later (exactly 17 0) elementNumbers (numberOf c + 32) q (f .0)), f .1)
-given-listed p (addElement id s) h = λ c q e. let f = element-listed p id s h c q e in (own-allowed (addElement id s) (numberOf c + 32) q (allowed-later (numbers 21 22 0) elementNumbers (numberOf c + 32) q (f .0)), f .1)
+    (own-allowed (insert k second j) (numberOf c + 32) q (allowed-first 34 45 60000 (numbers 16 16 1 ∷ []) (numberOf c + 32) q (omega arith) (omega arith) (f .1 .0)), f .1 .1))
+given-listed p (addRule name g id s) h = refused-as (GivenListed (addRule name g id s)) (given p id s) (λ c q e. let f = as-refused ElementListed (element-listed p id s h) e in (own-allowed (addRule name g id s) (numberOf c + 32) q (allowed-later (exactly 17 0) elementNumbers (numberOf c + 32) q (f .0)), f .1))
+given-listed p (addElement id s) h = refused-as (GivenListed (addElement id s)) (given p id s) (λ c q e. let f = as-refused ElementListed (element-listed p id s h) e in (own-allowed (addElement id s) (numberOf c + 32) q (allowed-later (numbers 21 22 0) elementNumbers (numberOf c + 32) q (f .0)), f .1))
 given-listed p (addWord word) h = tt
 
 pub edit-listed : (edition n : ℕ) (e : Edit) (d : List ℕ) {r : Outcome} {x : List ℕ} → Lent e → Edits edition n e d r x → Lists (editNumbers e) r
 unfolding says
 edit-listed edition n e d h f =
-    rw (f .0) (go (planned edition n d e) (only-planned (OwnListed e) (GivenListed e) (own-listed e) edition n d e (judges-listed e) (λ p i. ((λ c q z. faulty-listed (laterNumbers e) c q (deck-faulty p (take n d) c q z)), given-listed p e h))))
+    rw (f .0) (go (planned edition n d e) (only-planned (OwnListed e) (GivenListed e) (own-listed e) edition n d e (judges-listed e) (λ p i. (refused-as (OwnListed e) (readAs p (take n d)) (λ c q z. faulty-listed (laterNumbers e) c q (as-refused Faulty (deck-faulty p (take n d)) z)), given-listed p e h))))
   where
     go : (x : Plan) → Only NotLarge (OwnListed e) (GivenListed e) x → Lists (editNumbers e) (says x)
     go (become rs) f = tt

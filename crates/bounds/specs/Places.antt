@@ -30,7 +30,7 @@ use Rattle.view.specs.Asked.{asked, askedBy, askedOf, askedFirst}
 use Rattle.view.specs.View.{Inside, nameAt, nameView, viewSays}
 use Rattle.view.specs.Word.{wordAt, elementWord, ruleWord, wordView}
 use Rattle.bounds.specs.Data.{most, given-end}
-use Rattle.bounds.specs.Refused.{Only, NotLarge, Own, Judges, RefusedAs, OfGiven, only-planned}
+use Rattle.bounds.specs.Refused.{Only, NotLarge, Own, Judges, RefusedAs, refused-as, OfGiven, only-planned}
 
 -- what is lent to an edit beside its buffer, and is read, is bytes
 unfoldable pub Lent : Edit → Type 0
@@ -65,21 +65,24 @@ small-judges (addWord word) = (omega arith, (omega arith, omega arith))
 module _ (edition : ℕ) (p : Product) (ed : editionOf edition ≡ Edition.Of p) where
   element-small : (id : ℕ) (s : List ℕ) → Bytes s → RefusedAs Small (given p id s)
   unfolding endOf
-  element-small id s b c q e = let w : q ≤ most = rw e at (given-end p id s b) in omega arith
+  element-small id s b = refused-as Small (given p id s) (λ c q e. let w : q ≤ most = rw e at (given-end p id s b) in omega arith)
+
+  deck-small : (s : List ℕ) → Bytes s → RefusedAs Small (readAs p s)
+  deck-small s b = refused-as Small (readAs p s) (λ c q e. rw e at (read-small edition p s ed b))
 
   given-small : (e : Edit) → Lent e → OfGiven Small p e
   unfolding Lent
   given-small (switch k on) h = tt
   given-small (rename k name) h = tt
   given-small (remove k) h = tt
-  given-small (insert k second j) h = λ c q e. rw e at (read-small edition p second ed h)
+  given-small (insert k second j) h = deck-small second h
   given-small (addRule name f id s) h = element-small id s h
   given-small (addElement id s) h = element-small id s h
   given-small (addWord word) h = tt
 
 pub plan-small : (edition n : ℕ) (d : List ℕ) (e : Edit) → Bytes d → Lent e → placeOf (says (planned edition n d e)) ≤ 60000
 unfolding says
-plan-small edition n d e b h = go (planned edition n d e) (only-planned Small Small small-own edition n d e (small-judges e) (λ p f. ((λ c q z. rw z at (read-small edition p (take n d) f (bytes-take n d b))), given-small edition p f e h)))
+plan-small edition n d e b h = go (planned edition n d e) (only-planned Small Small small-own edition n d e (small-judges e) (λ p f. (deck-small edition p f (take n d) (bytes-take n d b), given-small edition p f e h)))
   where
     go : (x : Plan) → Only NotLarge Small Small x → placeOf (says x) ≤ 60000
     go (become rs) f = f

@@ -51,9 +51,19 @@ Judges N (addRule name f id s) = N Fault.Text 0
 Judges N (addElement id s) = N Fault.Last 0 × N Fault.Full 0
 Judges N (addWord word) = N Fault.Last 0 × (N Fault.Full 0 × N Fault.Text 0)
 
--- what it is given is refused as G says
-abbrev pub RefusedAs : {A : Type 0} → (Fault → ℕ → Type 0) → Answer A → Type 0
-RefusedAs G a = (c : Fault) (q : ℕ) → a ≡ refused c q → G c q
+-- an answer is refused, if it is, as G says of fault and place
+unfoldable pub RefusedAs : {A : Type 0} → (Fault → ℕ → Type 0) → Answer A → Type 0
+RefusedAs G (got x n) = Unit {0}
+RefusedAs G (refused c q) = G c q
+
+pub refused-as : {A : Type 0} (G : Fault → ℕ → Type 0) (a : Answer A) → ((c : Fault) (q : ℕ) → a ≡ refused c q → G c q) → RefusedAs G a
+unfolding RefusedAs
+refused-as G (got x n) f = tt
+refused-as G (refused c q) f = f c q refl
+
+pub as-refused : {A : Type 0} (G : Fault → ℕ → Type 0) {a : Answer A} {c : Fault} {q : ℕ} → RefusedAs G a → a ≡ refused c q → G c q
+unfolding RefusedAs
+as-refused G f e = rw e at f
 
 abbrev pub OfGiven : (Fault → ℕ → Type 0) → Product → Edit → Type 0
 OfGiven G p (switch k on) = Unit {0}
@@ -102,14 +112,14 @@ module _ (N G : Fault → ℕ → Type 0) where
   only-list ((id, span a b) ∷ later) f h g = h
 
   only-given : (a : Answer Element) (f : Element → Plan) → RefusedAs G a → ((x : Element) → Only Any N G (f x)) → Only Any N G (atGiven a f)
-  unfolding atGiven
+  unfolding atGiven RefusedAs
   only-given (got x n) f h g = g x
-  only-given (refused c q) f h g = h c q refl
+  only-given (refused c q) f h g = h
 
   only-second : (a : Answer (List Rule)) (f : List Rule → Plan) → RefusedAs G a → ((qs : List Rule) → Only Any N G (f qs)) → Only Any N G (atSecond a f)
-  unfolding atSecond
+  unfolding atSecond RefusedAs
   only-second (got qs n) f h g = g qs
-  only-second (refused c q) f h g = h c q refl
+  only-second (refused c q) f h g = h
 
   only-edited : (p : Product) (e : Edit) (rs : List Rule) → Judges N e → OfGiven G p e → Only Any N G (edited p e rs)
   unfolding edited
@@ -134,12 +144,12 @@ module _ (N G : Fault → ℕ → Type 0) where
   only-room o cap (refuseGiven c q) f = f
 
   pub only-planned : Own N → (edition n : ℕ) (d : List ℕ) (e : Edit) → Judges N e → ((p : Product) → editionOf edition ≡ Edition.Of p → RefusedAs N (readAs p (take n d)) × OfGiven G p e) → Only NotLarge N G (planned edition n d e)
-  unfolding planned pick
+  unfolding planned pick RefusedAs
   only-planned o edition n d e j w = by (editionOf edition) refl
     where
       read : (p : Product) (a : Answer (List Rule)) → RefusedAs N a × OfGiven G p e → Only NotLarge N G (plan p (length d) e a)
       read p (got rs m) f = only-room o (length d) (edited p e rs) (only-edited p e rs j (f .1))
-      read p (refused c q) f = f .0 c q refl
+      read p (refused c q) f = f .0
 
       stated : (p : Product) (t : Bool) → editionOf edition ≡ Edition.Of p → Only NotLarge N G (pick t (plan p (length d) e (readAs p (take n d))) (refuse Fault.Stated 0))
       stated p true f = read p (readAs p (take n d)) (w p f)

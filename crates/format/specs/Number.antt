@@ -120,6 +120,11 @@ bit-eqb n h = go (eqb n 1) refl
     go true e = sym (eqb-true n 1 e)
     go false e = omega (arith, eqb-false n 1 e)
 
+pub eqb-bit : (b : Bool) → eqb (bit b) 1 ≡ b
+unfolding bit pick
+eqb-bit true = refl
+eqb-bit false = refl
+
 pub bit-same : (n : ℕ) → judged (λ n. leb n 1) Field (number 4) .Fit n → bit (eqb n 1) ≡ n
 unfolding judged
 bit-same n f = bit-eqb n (leb-true n 1 (f .1))
@@ -148,6 +153,10 @@ value-join j k s at {x} {y} ex ey h =
     rw (take-add j k (drop at s), value-append, l, ← ex, ← d)
 
 -- a count within its range
+pub within-fits : (low high n : ℕ) → low ≤ n → n ≤ high → within low high n ≡ true
+unfolding within
+within-fits low high n f g = rw (le-leb low n f, le-leb n high g)
+
 pub within-is : (low high n : ℕ) → within low high n ≡ true → (low ≤ n) × (n ≤ high)
 unfolding within
 within-is low high n e = go (leb low n) refl e
