@@ -26,6 +26,7 @@ use Rattle.deck.specs.declared.Scan.{Scan}
 use Rattle.deck.specs.declared.Scan.the-variants as Scan
 use Rattle.deck.specs.Deck.{readAs, readBy, readDeck, answered, scanned}
 use Rattle.plan.specs.Edit.{Edit, switch, rename, remove, insert, addRule, addElement, addWord, Plan, become, refuse, refuseGiven, planned, says}
+use Rattle.plan.specs.Given.{given}
 use Rattle.plan.specs.Found.{Edits}
 use Rattle.tables.specs.Tables.{ruleWidth, elementWidth, inTables, tabled, readSays}
 use Rattle.view.specs.declared.View.{View}
@@ -36,10 +37,10 @@ use Rattle.view.specs.Asked.{asked, askedBy, askedOf, askedFirst}
 use Rattle.view.specs.View.{nameAt, nameView, viewSays}
 use Rattle.view.specs.Word.{wordAt, elementWord, ruleWord, wordView}
 use Rattle.view.specs.Fixed.{fixedAt, fixedFields, fieldsSay}
-use Rattle.bounds.specs.Refused.{Only, NotLarge, Own, Judges, OfGiven, only-planned}
-use Rattle.bounds.specs.Places.{Lent}
+use Rattle.bounds.specs.Refused.{Only, NotLarge, judges, owns, Each, Gift, nothing, aDeck, anElement, givenTo, refused-as, as-refused, OfGift, only-planned}
+use Rattle.bounds.specs.Places.{BytesOf, Lent}
 use Rattle.bounds.specs.Listed.{Numbers, allowed, Lists, allowed-first, allowed-later, numbers, exactly}
-use Rattle.bounds.specs.Faulty.{deck-faulty, edition-listed, faulty-listed, elementNumbers, element-listed}
+use Rattle.bounds.specs.Faulty.{Faulty, deck-faulty, edition-listed, faulty-listed, elementNumbers, ElementListed, element-listed}
 
 -- "The deck check is a read without tables, so without 14"
 abbrev pub checkNumbers : List Numbers
@@ -51,7 +52,7 @@ check-listed edition s = by (editionOf edition)
   where
     read : (p : Product) (a : Answer (List Rule)) → readAs p s ≡ a → Lists checkNumbers (answered a)
     read p (got rs n) e = tt
-    read p (refused c q) e = faulty-listed [] c q (deck-faulty p s c q e)
+    read p (refused c q) e = faulty-listed [] c q (as-refused Faulty (deck-faulty p s) e)
 
     by : (o : Edition) → Lists checkNumbers (answered (readBy o s))
     by (Edition.Of p) = read p (readAs p s) refl
@@ -84,7 +85,7 @@ read-listed edition rules elements s = by (editionOf edition)
         few true true = tt
         few true false = (refl, omega arith)
         few false y = (refl, omega arith)
-    read p (refused c q) e = faulty-listed (numbers 14 14 1 ∷ []) c q (deck-faulty p s c q e)
+    read p (refused c q) e = faulty-listed (numbers 14 14 1 ∷ []) c q (as-refused Faulty (deck-faulty p s) e)
 
     by : (o : Edition) → Lists readNumbers (readSays o rules elements s)
     by (Edition.Of p) = read p (readAs p s) refl
@@ -109,7 +110,7 @@ module _ {W : Type 0} (no : Fault → ℕ → W) (f : Product → ℕ → Rule �
 
       read : (p : Product) (a : Answer (List Rule)) → readAs p s ≡ a → Q (askedOf no f k p a)
       read p (got rs n) e = first p _ (drop k rs)
-      read p (refused c q) e = says-no c q (faulty-listed (numbers 16 16 last ∷ []) c q (deck-faulty p s c q e))
+      read p (refused c q) e = says-no c q (faulty-listed (numbers 16 16 last ∷ []) c q (as-refused Faulty (deck-faulty p s) e))
 
       by : (o : Edition) → Q (askedBy no f k o s)
       by (Edition.Of p) = read p (readAs p s) refl
@@ -141,19 +142,20 @@ fixed-listed edition k s = asked-listed Fielded.No (λ p. fixedAt) 0 (λ v. List
 
 -- ---- the edits
 
--- "16 (k first), 22, 21, 17", and what is wrong with what an edit is given
-abbrev pub ownNumbers : Edit → List Numbers
-ownNumbers (switch k on) = exactly 16 0 ∷ []
-ownNumbers (rename k name) = exactly 16 0 ∷ exactly 17 0 ∷ []
-ownNumbers (remove k) = exactly 16 0 ∷ []
-ownNumbers (insert k second j) = numbers 34 45 60000 ∷ numbers 16 16 1 ∷ []
-ownNumbers (addRule name f id s) = exactly 17 0 ∷ elementNumbers
-ownNumbers (addElement id s) = numbers 21 22 0 ∷ elementNumbers
-ownNumbers (addWord word) = numbers 21 22 0 ∷ exactly 17 0 ∷ []
+-- each fault at its place, before other rows
+abbrev pub eachExactly : List (Fault × ℕ) → List Numbers → List Numbers
+eachExactly [] rows = rows
+eachExactly ((c, q) ∷ faults) rows = exactly (numberOf c) q ∷ eachExactly faults rows
 
--- "An edit: 1, 15, 2 to 13 on its deck", its own, "18, 19, 20"
+-- "34 to 45 on a second deck", and on an element
+abbrev pub giftNumbers : Gift → List Numbers
+giftNumbers nothing = []
+giftNumbers (aDeck s) = numbers 34 45 60000 ∷ []
+giftNumbers (anElement id s) = elementNumbers
+
+-- "An edit: 1, 15, 2 to 13 on its deck", its own, "18, 19, 20", and what is wrong with what it is given
 abbrev pub laterNumbers : Edit → List Numbers
-laterNumbers e = exactly 15 0 ∷ numbers 18 20 0 ∷ ownNumbers e
+laterNumbers e = eachExactly (owns e) (giftNumbers (givenTo e))
 
 abbrev pub editNumbers : Edit → List Numbers
 editNumbers e = numbers 1 13 60000 ∷ laterNumbers e
@@ -164,41 +166,42 @@ OwnListed e c q = Lists (editNumbers e) (Outcome.No c q)
 abbrev GivenListed : Edit → Fault → ℕ → Type 0
 GivenListed e c q = Lists (editNumbers e) (Outcome.Given c q)
 
-own-listed : (e : Edit) → Own (OwnListed e)
-unfolding allowed within
-own-listed e = record { edition = (refl, refl); stated = (refl, refl); rules = (refl, refl); large = (refl, refl); room = (refl, refl) }
+judges-listed : (e : Edit) → Each (OwnListed e) (judges e)
+unfolding Each allowed within
+judges-listed (switch k on) = ((refl, omega arith), tt)
+judges-listed (rename k name) = ((refl, omega arith), ((refl, refl), tt))
+judges-listed (remove k) = ((refl, omega arith), tt)
+judges-listed (insert k second j) = ((refl, omega arith), ((refl, omega arith), tt))
+judges-listed (addRule name f id s) = ((refl, refl), tt)
+judges-listed (addElement id s) = ((refl, refl), ((refl, refl), tt))
+judges-listed (addWord word) = ((refl, refl), ((refl, refl), ((refl, refl), tt)))
 
-judges-listed : (e : Edit) → Judges (OwnListed e) e
-unfolding allowed within
-judges-listed (switch k on) = (refl, omega arith)
-judges-listed (rename k name) = ((refl, omega arith), (refl, refl))
-judges-listed (remove k) = (refl, omega arith)
-judges-listed (insert k second j) = ((refl, omega arith), (refl, omega arith))
-judges-listed (addRule name f id s) = (refl, refl)
-judges-listed (addElement id s) = ((refl, refl), (refl, refl))
-judges-listed (addWord word) = ((refl, refl), ((refl, refl), (refl, refl)))
+owns-listed : (e : Edit) → Each (OwnListed e) (owns e)
+unfolding Each allowed within
+owns-listed e = ((refl, refl), ((refl, refl), ((refl, refl), ((refl, refl), ((refl, refl), judges-listed e)))))
 
--- what is among its own numbers is among an edit's
-own-allowed : (e : Edit) (n q : ℕ) → allowed (ownNumbers e) n q ≡ true → allowed (editNumbers e) n q ≡ true
-own-allowed e n q f = allowed-later (numbers 1 13 60000) (laterNumbers e) n q (allowed-later (exactly 15 0) (numbers 18 20 0 ∷ ownNumbers e) n q (allowed-later (numbers 18 20 0) (ownNumbers e) n q f))
+-- what is among the later rows is among all
+behind : (faults : List (Fault × ℕ)) (rows : List Numbers) (n q : ℕ) → allowed rows n q ≡ true → allowed (eachExactly faults rows) n q ≡ true
+behind [] rows n q f = f
+behind ((c, o) ∷ faults) rows n q f = allowed-later (exactly (numberOf c) o) (eachExactly faults rows) n q (behind faults rows n q f)
 
-given-listed : (p : Product) (e : Edit) → Lent e → OfGiven (GivenListed e) p e
-unfolding Lent
-given-listed p (switch k on) h = tt
-given-listed p (rename k name) h = tt
-given-listed p (remove k) h = tt
-given-listed p (insert k second j) h = λ c q e.
-    let f = deck-faulty p second c q e in
-    let w = within-is 2 13 (numberOf c) (f .0) in
-    (own-allowed (insert k second j) (numberOf c + 32) q (allowed-first 34 45 60000 (numbers 16 16 1 ∷ []) (numberOf c + 32) q (omega arith) (omega arith) (f .1 .0)), f .1 .1)
-given-listed p (addRule name g id s) h = λ c q e. let f = element-listed p id s h c q e in (own-allowed (addRule name g id s) (numberOf c + 32) q (allowed-later (exactly 17 0) elementNumbers (numberOf c + 32) q (f .0)), f .1)
-given-listed p (addElement id s) h = λ c q e. let f = element-listed p id s h c q e in (own-allowed (addElement id s) (numberOf c + 32) q (allowed-later (numbers 21 22 0) elementNumbers (numberOf c + 32) q (f .0)), f .1)
-given-listed p (addWord word) h = tt
+gift-allowed : (e : Edit) (n q : ℕ) → allowed (giftNumbers (givenTo e)) n q ≡ true → allowed (editNumbers e) n q ≡ true
+gift-allowed e n q f = allowed-later (numbers 1 13 60000) (laterNumbers e) n q (behind (owns e) (giftNumbers (givenTo e)) n q f)
+
+given-listed : (p : Product) (e : Edit) (g : Gift) → ((n q : ℕ) → allowed (giftNumbers g) n q ≡ true → allowed (editNumbers e) n q ≡ true) → BytesOf g → OfGift (GivenListed e) p g
+given-listed p e nothing w h = tt
+given-listed p e (aDeck s) w h = refused-as (GivenListed e) (readAs p s) (λ c q z.
+    let f = as-refused Faulty (deck-faulty p s) z in
+    let i = within-is 2 13 (numberOf c) (f .0) in
+    (w (numberOf c + 32) q (allowed-first 34 45 60000 [] (numberOf c + 32) q (omega arith) (omega arith) (f .1 .0)), f .1 .1))
+given-listed p e (anElement id s) w h = refused-as (GivenListed e) (given p id s) (λ c q z.
+    let f = as-refused ElementListed (element-listed p id s h) z in
+    (w (numberOf c + 32) q (f .0), f .1))
 
 pub edit-listed : (edition n : ℕ) (e : Edit) (d : List ℕ) {r : Outcome} {x : List ℕ} → Lent e → Edits edition n e d r x → Lists (editNumbers e) r
-unfolding says
+unfolding says Lent
 edit-listed edition n e d h f =
-    rw (f .0) (go (planned edition n d e) (only-planned (OwnListed e) (GivenListed e) (own-listed e) edition n d e (judges-listed e) (λ p i. ((λ c q z. faulty-listed (laterNumbers e) c q (deck-faulty p (take n d) c q z)), given-listed p e h))))
+    rw (f .0) (go (planned edition n d e) (only-planned (OwnListed e) (GivenListed e) edition n d e (owns-listed e) (λ p i. (refused-as (OwnListed e) (readAs p (take n d)) (λ c q z. faulty-listed (laterNumbers e) c q (as-refused Faulty (deck-faulty p (take n d)) z)), given-listed p e (givenTo e) (gift-allowed e) h))))
   where
     go : (x : Plan) → Only NotLarge (OwnListed e) (GivenListed e) x → Lists (editNumbers e) (says x)
     go (become rs) f = tt

@@ -72,7 +72,7 @@ bounded-data (Kind.Dates r) = wider _ 40 most (omega arith) (bounded-via _ _ _ _
 -- ---- a given element
 
 abbrev rowPlace : Row → ℕ
-rowPlace r = placeOf (kindSays r)
+rowPlace r = placeOf (kindSays r .0)
 
 -- 41 and 42 "have place 0"
 row-place : (rows : List (Kind × List ℕ)) (id : ℕ) → rowPlace (rowIn rows id) ≡ 0

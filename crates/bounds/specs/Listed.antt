@@ -11,6 +11,7 @@ use Rattle.format.specs.declared.Outcome.{Outcome}
 use Rattle.format.specs.declared.Outcome.the-variants as Outcome
 use Rattle.format.specs.Fault.{numberOf}
 use Rattle.format.specs.ReadWrite.{within}
+use Rattle.format.specs.Laws.ReadWrite.{within-fits}
 
 -- the table, in its order: number, when, and its place
 abbrev pub Listed : Fault → ℕ → Type 0
@@ -76,13 +77,9 @@ Lists rows (Outcome.Given c q) = (allowed rows (numberOf c + 32) q ≡ true) × 
 
 -- ---- laws
 
-within-true : (low high n : ℕ) → low ≤ n → n ≤ high → within low high n ≡ true
-unfolding within
-within-true low high n f g = rw (le-leb low n f, le-leb n high g)
-
 pub allowed-first : (low high last : ℕ) (rows : List Numbers) (n q : ℕ) → low ≤ n → n ≤ high → q ≤ last → allowed (numbers low high last ∷ rows) n q ≡ true
 unfolding allowed
-allowed-first low high last rows n q f g h = rw (within-true low high n f g, le-leb q last h)
+allowed-first low high last rows n q f g h = rw (within-fits low high n f g, le-leb q last h)
 
 pub allowed-later : (row : Numbers) (rows : List Numbers) (n q : ℕ) → allowed rows n q ≡ true → allowed (row ∷ rows) n q ≡ true
 unfolding allowed

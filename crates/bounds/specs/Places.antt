@@ -30,17 +30,16 @@ use Rattle.view.specs.Asked.{asked, askedBy, askedOf, askedFirst}
 use Rattle.view.specs.View.{Inside, nameAt, nameView, viewSays}
 use Rattle.view.specs.Word.{wordAt, elementWord, ruleWord, wordView}
 use Rattle.bounds.specs.Data.{most, given-end}
-use Rattle.bounds.specs.Refused.{Only, NotLarge, Own, Judges, RefusedAs, OfGiven, only-planned}
+use Rattle.bounds.specs.Refused.{Only, NotLarge, judges, owns, Each, Gift, nothing, aDeck, anElement, givenTo, RefusedAs, refused-as, OfGift, only-planned}
 
 -- what is lent to an edit beside its buffer, and is read, is bytes
+abbrev pub BytesOf : Gift → Type 0
+BytesOf nothing = Unit {0}
+BytesOf (aDeck s) = Bytes s
+BytesOf (anElement id s) = Bytes s
+
 unfoldable pub Lent : Edit → Type 0
-Lent (switch k on) = Unit {0}
-Lent (rename k name) = Unit {0}
-Lent (remove k) = Unit {0}
-Lent (insert k second j) = Bytes second
-Lent (addRule name f id s) = Bytes s
-Lent (addElement id s) = Bytes s
-Lent (addWord word) = Unit {0}
+Lent e = BytesOf (givenTo e)
 
 -- a reading in an edition
 read-small : (edition : ℕ) (p : Product) (s : List ℕ) → editionOf edition ≡ Edition.Of p → Bytes s → placeOf (answered (readAs p s)) ≤ 60000
@@ -50,36 +49,36 @@ read-small edition p s e b = rw e at (place-small edition s b)
 abbrev Small : Fault → ℕ → Type 0
 Small c q = q ≤ 60000
 
-small-own : Own Small
-small-own = record { edition = omega arith; stated = omega arith; rules = omega arith; large = omega arith; room = omega arith }
+small-judges : (e : Edit) → Each Small (judges e)
+unfolding Each
+small-judges (switch k on) = (omega arith, tt)
+small-judges (rename k name) = (omega arith, (omega arith, tt))
+small-judges (remove k) = (omega arith, tt)
+small-judges (insert k second j) = (omega arith, (omega arith, tt))
+small-judges (addRule name f id s) = (omega arith, tt)
+small-judges (addElement id s) = (omega arith, (omega arith, tt))
+small-judges (addWord word) = (omega arith, (omega arith, (omega arith, tt)))
 
-small-judges : (e : Edit) → Judges Small e
-small-judges (switch k on) = omega arith
-small-judges (rename k name) = (omega arith, omega arith)
-small-judges (remove k) = omega arith
-small-judges (insert k second j) = (omega arith, omega arith)
-small-judges (addRule name f id s) = omega arith
-small-judges (addElement id s) = (omega arith, omega arith)
-small-judges (addWord word) = (omega arith, (omega arith, omega arith))
+small-owns : (e : Edit) → Each Small (owns e)
+unfolding Each
+small-owns e = (omega arith, (omega arith, (omega arith, (omega arith, (omega arith, small-judges e)))))
 
 module _ (edition : ℕ) (p : Product) (ed : editionOf edition ≡ Edition.Of p) where
   element-small : (id : ℕ) (s : List ℕ) → Bytes s → RefusedAs Small (given p id s)
   unfolding endOf
-  element-small id s b c q e = let w : q ≤ most = rw e at (given-end p id s b) in omega arith
+  element-small id s b = refused-as Small (given p id s) (λ c q e. let w : q ≤ most = rw e at (given-end p id s b) in omega arith)
 
-  given-small : (e : Edit) → Lent e → OfGiven Small p e
-  unfolding Lent
-  given-small (switch k on) h = tt
-  given-small (rename k name) h = tt
-  given-small (remove k) h = tt
-  given-small (insert k second j) h = λ c q e. rw e at (read-small edition p second ed h)
-  given-small (addRule name f id s) h = element-small id s h
-  given-small (addElement id s) h = element-small id s h
-  given-small (addWord word) h = tt
+  deck-small : (s : List ℕ) → Bytes s → RefusedAs Small (readAs p s)
+  deck-small s b = refused-as Small (readAs p s) (λ c q e. rw e at (read-small edition p s ed b))
+
+  given-small : (g : Gift) → BytesOf g → OfGift Small p g
+  given-small nothing h = tt
+  given-small (aDeck s) h = deck-small s h
+  given-small (anElement id s) h = element-small id s h
 
 pub plan-small : (edition n : ℕ) (d : List ℕ) (e : Edit) → Bytes d → Lent e → placeOf (says (planned edition n d e)) ≤ 60000
-unfolding says
-plan-small edition n d e b h = go (planned edition n d e) (only-planned Small Small small-own edition n d e (small-judges e) (λ p f. ((λ c q z. rw z at (read-small edition p (take n d) f (bytes-take n d b))), given-small edition p f e h)))
+unfolding says Lent
+plan-small edition n d e b h = go (planned edition n d e) (only-planned Small Small edition n d e (small-owns e) (λ p f. (deck-small edition p f (take n d) (bytes-take n d b), given-small edition p f (givenTo e) h)))
   where
     go : (x : Plan) → Only NotLarge Small Small x → placeOf (says x) ≤ 60000
     go (become rs) f = f

@@ -33,36 +33,58 @@ Any rs = Unit {0}
 abbrev pub NotLarge : List Rule → Type 0
 NotLarge rs = length (written rs) ≤ 60000
 
--- what every edit judges itself, beside its deck: 1, 15, 18, 19, 20
-pub record Own (N : Fault → ℕ → Type 0) : Type 0 where
-  pub edition : N Fault.Edition 0
-  pub stated : N Fault.Stated 0
-  pub rules : N Fault.Rules 0
-  pub large : N Fault.Large 0
-  pub room : N Fault.Room 0
+-- what each edit judges of its own, fault and place: "16 (k first), 22, 21, 17"
+abbrev pub judges : Edit → List (Fault × ℕ)
+judges (switch k on) = (Fault.Absent, 0) ∷ []
+judges (rename k name) = (Fault.Absent, 0) ∷ (Fault.Text, 0) ∷ []
+judges (remove k) = (Fault.Absent, 0) ∷ []
+judges (insert k second j) = (Fault.Absent, 0) ∷ (Fault.Absent, 1) ∷ []
+judges (addRule name f id s) = (Fault.Text, 0) ∷ []
+judges (addElement id s) = (Fault.Last, 0) ∷ (Fault.Full, 0) ∷ []
+judges (addWord word) = (Fault.Last, 0) ∷ (Fault.Full, 0) ∷ (Fault.Text, 0) ∷ []
 
--- and what each judges: 16, 22, 21, 17
-abbrev pub Judges : (Fault → ℕ → Type 0) → Edit → Type 0
-Judges N (switch k on) = N Fault.Absent 0
-Judges N (rename k name) = N Fault.Absent 0 × N Fault.Text 0
-Judges N (remove k) = N Fault.Absent 0
-Judges N (insert k second j) = N Fault.Absent 0 × N Fault.Absent 1
-Judges N (addRule name f id s) = N Fault.Text 0
-Judges N (addElement id s) = N Fault.Last 0 × N Fault.Full 0
-Judges N (addWord word) = N Fault.Last 0 × (N Fault.Full 0 × N Fault.Text 0)
+-- and what every edit does: "1, 15", "18, 19, 20"
+abbrev pub owns : Edit → List (Fault × ℕ)
+owns e = (Fault.Edition, 0) ∷ (Fault.Stated, 0) ∷ (Fault.Rules, 0) ∷ (Fault.Large, 0) ∷ (Fault.Room, 0) ∷ judges e
 
--- what it is given is refused as G says
-abbrev pub RefusedAs : {A : Type 0} → (Fault → ℕ → Type 0) → Answer A → Type 0
-RefusedAs G a = (c : Fault) (q : ℕ) → a ≡ refused c q → G c q
+-- N says it of each
+unfoldable pub Each : (Fault → ℕ → Type 0) → List (Fault × ℕ) → Type 0
+Each N [] = Unit {0}
+Each N ((c, q) ∷ rows) = N c q × Each N rows
 
-abbrev pub OfGiven : (Fault → ℕ → Type 0) → Product → Edit → Type 0
-OfGiven G p (switch k on) = Unit {0}
-OfGiven G p (rename k name) = Unit {0}
-OfGiven G p (remove k) = Unit {0}
-OfGiven G p (insert k second j) = RefusedAs G (readAs p second)
-OfGiven G p (addRule name f id s) = RefusedAs G (given p id s)
-OfGiven G p (addElement id s) = RefusedAs G (given p id s)
-OfGiven G p (addWord word) = Unit {0}
+-- what an edit is given to read, beside its deck: "a second deck", "an element"
+pub data Gift : Type 0 where
+  nothing : Gift
+  aDeck : List ℕ → Gift
+  anElement : ℕ → List ℕ → Gift
+
+abbrev pub givenTo : Edit → Gift
+givenTo (switch k on) = nothing
+givenTo (rename k name) = nothing
+givenTo (remove k) = nothing
+givenTo (insert k second j) = aDeck second
+givenTo (addRule name f id s) = anElement id s
+givenTo (addElement id s) = anElement id s
+givenTo (addWord word) = nothing
+
+-- an answer is refused, if it is, as G says of fault and place
+unfoldable pub RefusedAs : {A : Type 0} → (Fault → ℕ → Type 0) → Answer A → Type 0
+RefusedAs G (got x n) = Unit {0}
+RefusedAs G (refused c q) = G c q
+
+pub refused-as : {A : Type 0} (G : Fault → ℕ → Type 0) (a : Answer A) → ((c : Fault) (q : ℕ) → a ≡ refused c q → G c q) → RefusedAs G a
+unfolding RefusedAs
+refused-as G (got x n) f = tt
+refused-as G (refused c q) f = f c q refl
+
+pub as-refused : {A : Type 0} (G : Fault → ℕ → Type 0) {a : Answer A} {c : Fault} {q : ℕ} → RefusedAs G a → a ≡ refused c q → G c q
+unfolding RefusedAs
+as-refused G f e = rw e at f
+
+abbrev pub OfGift : (Fault → ℕ → Type 0) → Product → Gift → Type 0
+OfGift G p nothing = Unit {0}
+OfGift G p (aDeck s) = RefusedAs G (readAs p s)
+OfGift G p (anElement id s) = RefusedAs G (given p id s)
 
 module _ (N G : Fault → ℕ → Type 0) where
   only-pick : (b : Bool) (q : Plan) (c : Fault) (at : ℕ) → N c at → Only Any N G q → Only Any N G (pick b q (refuse c at))
@@ -102,49 +124,49 @@ module _ (N G : Fault → ℕ → Type 0) where
   only-list ((id, span a b) ∷ later) f h g = h
 
   only-given : (a : Answer Element) (f : Element → Plan) → RefusedAs G a → ((x : Element) → Only Any N G (f x)) → Only Any N G (atGiven a f)
-  unfolding atGiven
+  unfolding atGiven RefusedAs
   only-given (got x n) f h g = g x
-  only-given (refused c q) f h g = h c q refl
+  only-given (refused c q) f h g = h
 
   only-second : (a : Answer (List Rule)) (f : List Rule → Plan) → RefusedAs G a → ((qs : List Rule) → Only Any N G (f qs)) → Only Any N G (atSecond a f)
-  unfolding atSecond
+  unfolding atSecond RefusedAs
   only-second (got qs n) f h g = g qs
-  only-second (refused c q) f h g = h c q refl
+  only-second (refused c q) f h g = h
 
-  only-edited : (p : Product) (e : Edit) (rs : List Rule) → Judges N e → OfGiven G p e → Only Any N G (edited p e rs)
-  unfolding edited
-  only-edited p (switch k on) rs j h = only-rule _ _ j (λ r later. tt)
-  only-edited p (rename k name) rs j h = only-rule _ _ (j .0) (λ r later. only-text name _ (j .1) tt)
-  only-edited p (remove k) rs j h = only-rule _ _ j (λ r later. tt)
-  only-edited p (insert k second i) rs j h = only-second _ _ h (λ qs. only-pick _ _ Fault.Absent 0 (j .0) (only-copy _ _ (j .1) (λ q. tt)))
-  only-edited p (addRule name f id s) rs j h = only-text name _ j (only-given _ _ h (λ x. tt))
-  only-edited p (addElement id s) rs j h = only-last _ _ (j .0) (λ r. only-full _ _ (j .1) (only-given _ _ h (λ x. tt)))
-  only-edited p (addWord word) rs j h = only-last _ _ (j .0) (λ r. only-list _ _ (j .0) (λ id ws. only-full _ _ (j .1 .0) (only-text word _ (j .1 .1) tt)))
+  only-edited : (p : Product) (e : Edit) (rs : List Rule) → Each N (judges e) → OfGift G p (givenTo e) → Only Any N G (edited p e rs)
+  unfolding edited Each
+  only-edited p (switch k on) rs j h = only-rule _ _ (j .0) (λ r later. tt)
+  only-edited p (rename k name) rs j h = only-rule _ _ (j .0) (λ r later. only-text name _ (j .1 .0) tt)
+  only-edited p (remove k) rs j h = only-rule _ _ (j .0) (λ r later. tt)
+  only-edited p (insert k second i) rs j h = only-second _ _ h (λ qs. only-pick _ _ Fault.Absent 0 (j .0) (only-copy _ _ (j .1 .0) (λ q. tt)))
+  only-edited p (addRule name f id s) rs j h = only-text name _ (j .0) (only-given _ _ h (λ x. tt))
+  only-edited p (addElement id s) rs j h = only-last _ _ (j .0) (λ r. only-full _ _ (j .1 .0) (only-given _ _ h (λ x. tt)))
+  only-edited p (addWord word) rs j h = only-last _ _ (j .0) (λ r. only-list _ _ (j .0) (λ id ws. only-full _ _ (j .1 .0) (only-text word _ (j .1 .1 .0) tt)))
 
-  only-room : Own N → (cap : ℕ) (q : Plan) → Only Any N G q → Only NotLarge N G (inRoom cap q)
-  unfolding room pick
-  only-room o cap (become rs) f = few (leb (length rs) 256) (leb (length (written rs)) 60000) refl (leb (length (written rs)) cap)
+  only-room : (e : Edit) → Each N (owns e) → (cap : ℕ) (q : Plan) → Only Any N G q → Only NotLarge N G (inRoom cap q)
+  unfolding room pick Each
+  only-room e o cap (become rs) f = few (leb (length rs) 256) (leb (length (written rs)) 60000) refl (leb (length (written rs)) cap)
     where
       few : (a b : Bool) → leb (length (written rs)) 60000 ≡ b → (c : Bool) → Only NotLarge N G (pick a (pick b (pick c (become rs) (refuse Fault.Room 0)) (refuse Fault.Large 0)) (refuse Fault.Rules 0))
-      few true true e true = leb-true (length (written rs)) 60000 e
-      few true true e false = o .room
-      few true false e c = o .large
-      few false b e c = o .rules
-  only-room o cap (refuse c q) f = f
-  only-room o cap (refuseGiven c q) f = f
+      few true true l true = leb-true (length (written rs)) 60000 l
+      few true true l false = o .1 .1 .1 .1 .0
+      few true false l c = o .1 .1 .1 .0
+      few false b l c = o .1 .1 .0
+  only-room e o cap (refuse c q) f = f
+  only-room e o cap (refuseGiven c q) f = f
 
-  pub only-planned : Own N → (edition n : ℕ) (d : List ℕ) (e : Edit) → Judges N e → ((p : Product) → editionOf edition ≡ Edition.Of p → RefusedAs N (readAs p (take n d)) × OfGiven G p e) → Only NotLarge N G (planned edition n d e)
-  unfolding planned pick
-  only-planned o edition n d e j w = by (editionOf edition) refl
+  pub only-planned : (edition n : ℕ) (d : List ℕ) (e : Edit) → Each N (owns e) → ((p : Product) → editionOf edition ≡ Edition.Of p → RefusedAs N (readAs p (take n d)) × OfGift G p (givenTo e)) → Only NotLarge N G (planned edition n d e)
+  unfolding planned pick RefusedAs Each
+  only-planned edition n d e o w = by (editionOf edition) refl
     where
-      read : (p : Product) (a : Answer (List Rule)) → RefusedAs N a × OfGiven G p e → Only NotLarge N G (plan p (length d) e a)
-      read p (got rs m) f = only-room o (length d) (edited p e rs) (only-edited p e rs j (f .1))
-      read p (refused c q) f = f .0 c q refl
+      read : (p : Product) (a : Answer (List Rule)) → RefusedAs N a × OfGift G p (givenTo e) → Only NotLarge N G (plan p (length d) e a)
+      read p (got rs m) f = only-room e o (length d) (edited p e rs) (only-edited p e rs (o .1 .1 .1 .1 .1) (f .1))
+      read p (refused c q) f = f .0
 
       stated : (p : Product) (t : Bool) → editionOf edition ≡ Edition.Of p → Only NotLarge N G (pick t (plan p (length d) e (readAs p (take n d))) (refuse Fault.Stated 0))
       stated p true f = read p (readAs p (take n d)) (w p f)
-      stated p false f = o .stated
+      stated p false f = o .1 .0
 
       by : (x : Edition) → editionOf edition ≡ x → Only NotLarge N G (planBy x n d e)
       by (Edition.Of p) f = stated p (leb n (length d)) f
-      by Edition.Unknown f = o .edition
+      by Edition.Unknown f = o .0

@@ -9,26 +9,25 @@ use lib.Ieee.Bits.{is-true}
 use lib.Ieee.Fits.{and-l, and-r}
 use borrow.Author.Tests.{not-true}
 use Rattle.format.specs.declared.Fault.the-variants as Fault
-use Rattle.format.specs.Fault.{numberOf}
-use Rattle.format.specs.Format.{Answer, got, refused, shift, mapped, andThen, pick, whole}
+use Rattle.format.specs.Fault.{codeOf, placeOf, Said}
+use Rattle.format.specs.Format.{shift, mapped, andThen, pick, whole}
 use Rattle.format.specs.ReadWrite.{pairRead, judgeOf, judge, home, numberRead, within, bit, value, eachRead, weighed}
 use Rattle.format.specs.Combinators.{pair, seq, _then_, judged, via, atStart, nothing, number, count, fixed, bytes, flag, each, counted, listed, sized, measured}
-use Rattle.civil.specs.Calendar.{leap, monthDays, monthsDays, yearsDays, dayOf}
+use Rattle.civil.specs.declared.Civil.{Civil}
+use Rattle.civil.specs.Calendar.{leap, monthDays, monthsDays, yearsDays, Valid, dayOf}
 use Rattle.date.specs.Double.{negative, size, day, accepted}
 use Rattle.moment.specs.declared.Moment.{Moment}
 use Rattle.moment.specs.declared.Moment.the-variants as Moment
-use Rattle.moment.specs.Moment.{origin, dayIn, secondIn, Says}
+use Rattle.moment.specs.Moment.{origin, dayIn, secondIn, momentSays, Says, says-at, says-no}
 use Rattle.text.specs.Text.{extended, stringLength, string}
 use Rattle.kind.specs.declared.Role.the-variants.{Condition}
 use Rattle.kind.specs.declared.Kind.{Kind}
 use Rattle.kind.specs.declared.Kind.the-variants.{Simple}
-use Rattle.kind.specs.declared.Row.{Row}
-use Rattle.kind.specs.declared.Row.the-variants as Row
-use Rattle.kind.specs.Kinds.{editionOf, has, rowIn, offered, rowOf, rowBy, kindOf}
+use Rattle.kind.specs.Kinds.{editionOf, has, rowIn, offered, rowOf, kindValues, rowBy, kindOf}
 use Rattle.element.specs.Data.{oneZero, simpleData}
 use Rattle.element.specs.Element.{identifier, element}
-use Rattle.rule.specs.Rule.{Rule, className, classHead, firstHead, head, placed, body, fromUnknown4, fromUnknown2, fields, rule}
-use Rattle.deck.specs.Deck.{mark, header, deck, readAs, readBy, readDeck}
+use Rattle.rule.specs.Rule.{className, classHead, firstHead, head, placed, body, fromUnknown4, fromUnknown2, fields, rule}
+use Rattle.deck.specs.Deck.{mark, header, deck, readAs, readBy, readDeck, answered}
 use Rattle.deck.specs.Sample.{sample}
 
 -- a number by its whole days and its further quarters of a day: whether it is negative, and its quarters
@@ -44,31 +43,30 @@ pub data Asked : Type 0 where
   identifierOf : ℕ → ℕ → Asked
   dateOf : Bool × ℕ → ℕ → Asked
 
--- what is answered: a number and a place (0 and the number of rules where the deck is accepted); a kind; year, month, day and second
-pub data Said : Type 0 where
-  says : ℕ → ℕ → Said
-  isKind : Kind → Said
-  on : ℕ → ℕ → ℕ → ℕ → Said
+-- what is answered: a number, a place and values
+abbrev pub Told : Type 0
+Told = ℕ × (ℕ × List ℕ)
 
-abbrev pub ofDeck : Answer (List Rule) → Said
-ofDeck (got rs n) = says 0 (length rs)
-ofDeck (refused c p) = says (numberOf c) p
+abbrev pub told : Said → Told
+told x = (codeOf (x .0), (placeOf (x .0), x .1))
 
-abbrev pub ofRow : Row → Said
-ofRow (Row.Is k) = isKind k
-ofRow (Row.No c p) = says (numberOf c) p
+-- a number and a place alone (0 and the number of rules where the deck is accepted); a kind; year, month, day and second
+abbrev pub says : ℕ → ℕ → Told
+says n p = (n, (p, []))
 
-abbrev pub ofMoment : Moment → Said
-ofMoment (Moment.At c second) = on (c .year) (c .month) (c .day) second
-ofMoment (Moment.No c p) = says (numberOf c) p
+abbrev pub isKind : Kind → Told
+isKind k = (0, (0, kindValues k))
+
+abbrev pub on : ℕ → ℕ → ℕ → ℕ → Told
+on y m d second = (0, (0, y ∷ m ∷ d ∷ second ∷ []))
 
 -- the definitions answer so; of a date, its bits are its number, and its promise allows a moment that says so
-abbrev pub Answers : Asked → Said → Type 0
-Answers (deckOf edition s) a = ofDeck (readDeck edition s) ≡ a
-Answers (identifierOf edition id) a = ofRow (kindOf edition id) ≡ a
-Answers (dateOf x bits) a = ((negative bits ≡ x .0) × (size bits * 4 ≡ x .1 * day)) × ((m : Moment) × (Says bits m × (ofMoment m ≡ a)))
+abbrev pub Answers : Asked → Told → Type 0
+Answers (deckOf edition s) a = told (answered (readDeck edition s), []) ≡ a
+Answers (identifierOf edition id) a = told (kindOf edition id) ≡ a
+Answers (dateOf x bits) a = ((negative bits ≡ x .0) × (size bits * 4 ≡ x .1 * day)) × ((m : Moment) × (Says bits m × (told (momentSays m) ≡ a)))
 
-abbrev pub AllAnswer : List (Asked × Said) → Type 0
+abbrev pub AllAnswer : List (Asked × Told) → Type 0
 AllAnswer [] = Unit {0}
 AllAnswer (c ∷ cs) = Answers (c .0) (c .1) × AllAnswer cs
 
@@ -78,7 +76,7 @@ noon = 12 * 3600
 abbrev pub six : ℕ
 six = 6 * 3600
 
-abbrev pub cases : List (Asked × Said)
+abbrev pub cases : List (Asked × Told)
 cases =
     -- empty input 3 at 0
     (deckOf 1 [], says 3 0)
@@ -112,23 +110,6 @@ cases =
     ∷ []
 
 -- ---- a date's case by tests
-abbrev saidTests : ℕ → Said → List Bool
-saidTests bits (on y m d second) =
-    accepted bits
-    ∷ eqb (dayOf (record { year = y; month = m; day = d })) (dayIn bits)
-    ∷ eqb second (secondIn bits)
-    ∷ leb 100 y
-    ∷ leb 1 m
-    ∷ leb m 12
-    ∷ leb 1 d
-    ∷ leb d (monthDays y (m - 1))
-    ∷ []
-saidTests bits (says n p) = not (accepted bits) ∷ eqb 11 n ∷ eqb 0 p ∷ []
-saidTests bits (isKind k) = false ∷ []
-
-abbrev tests : Bool × ℕ → ℕ → Said → List Bool
-tests x bits a = eqb (size bits * 4) (x .1 * day) ∷ saidTests bits a
-
 abbrev every : List Bool → Bool
 every [] = true
 every (b ∷ bs) = b && every bs
@@ -141,32 +122,40 @@ all : (bs : List Bool) → T (every bs) → All bs
 all [] t = tt
 all (b ∷ bs) t = (and-l b (every bs) t, all bs (and-r b (every bs) t))
 
-said : (bits : ℕ) (a : Said) → All (saidTests bits a) → (m : Moment) × (Says bits m × (ofMoment m ≡ a))
-said bits (on y m d second) (a, (n, (t, (y100, (m1, (m12, (d1, (dn, u)))))))) = (
-  Moment.At (record { year = y; month = m; day = d }) second,
-  (
-    record {
-      accepts = is-true (accepted bits) a;
-      valid = record { year = leb→le 100 y y100; month-low = leb→le 1 m m1; month-high = leb→le m 12 m12; day-low = leb→le 1 d d1; day-high = leb→le d (monthDays y (m - 1)) dn };
-      on = eqb→eq (dayOf (record { year = y; month = m; day = d })) (dayIn bits) n;
-      at = eqb→eq second (secondIn bits) t;
-    },
-    refl,
-  ),
-)
-said bits (says n p) (a, (e, (z, u))) = (
-  Moment.No Fault.Date 0,
-  (
-    record { not-accepted = not-true (accepted bits) (is-true (not (accepted bits)) a); why = refl; start = refl },
-    rw (← eqb→eq 11 n e, ← eqb→eq 0 p z),
-  ),
-)
-said bits (isKind k) (a, u) = absurd a
+module _ (x : Bool × ℕ) (bits : ℕ) where
+  abbrev onTests : ℕ → ℕ → ℕ → ℕ → List Bool
+  onTests y m d second =
+      eqb (size bits * 4) (x .1 * day)
+      ∷ accepted bits
+      ∷ eqb (dayOf (record { year = y; month = m; day = d })) (dayIn bits)
+      ∷ eqb second (secondIn bits)
+      ∷ leb 100 y
+      ∷ leb 1 m
+      ∷ leb m 12
+      ∷ leb 1 d
+      ∷ leb d (monthDays y (m - 1))
+      ∷ []
 
-date : (x : Bool × ℕ) (bits : ℕ) (a : Said) → negative bits ≡ x .0 → T (every (tests x bits a)) → Answers (dateOf x bits) a
-date x bits a e t = let b = all (tests x bits a) t in ((e, eqb→eq (size bits * 4) (x .1 * day) (b .0)), said bits a (b .1))
+  abbrev noTests : List Bool
+  noTests = eqb (size bits * 4) (x .1 * day) ∷ not (accepted bits) ∷ []
+
+  is-on : (y m d second : ℕ) → negative bits ≡ x .0 → All (onTests y m d second) → Answers (dateOf x bits) (on y m d second)
+  is-on y m d second e (z, (a, (n, (t, (y100, (m1, (m12, (d1, (dn, u))))))))) =
+      let c : Civil = record { year = y; month = m; day = d } in
+      let v : Valid c = record { year = leb→le 100 y y100; month-low = leb→le 1 m m1; month-high = leb→le m 12 m12; day-low = leb→le 1 d d1; day-high = leb→le d (monthDays y (m - 1)) dn } in (
+        (e, eqb→eq (size bits * 4) (x .1 * day) z),
+        (Moment.At c second, (says-at bits c second (is-true (accepted bits) a) (v, eqb→eq (dayOf c) (dayIn bits) n) (eqb→eq second (secondIn bits) t), refl)),
+      )
+
+  date-on : (y m d second : ℕ) → negative bits ≡ x .0 → T (every (onTests y m d second)) → Answers (dateOf x bits) (on y m d second)
+  date-on y m d second e t = is-on y m d second e (all (onTests y m d second) t)
+
+  date-no : negative bits ≡ x .0 → T (every noTests) → Answers (dateOf x bits) (says 11 0)
+  date-no e t =
+      let b = all noTests t in
+      ((e, eqb→eq (size bits * 4) (x .1 * day) (b .0)), (Moment.No Fault.Date 0, (says-no bits (not-true (accepted bits) (is-true (not (accepted bits)) (b .1 .0))), refl)))
 
 pub cases-hold : AllAnswer cases
 unfolding sample mark header deck whole readAs readBy readDeck className classHead firstHead head placed body fromUnknown4 fromUnknown2 fields rule identifier element oneZero simpleData editionOf has rowIn offered rowOf rowBy kindOf extended stringLength string sized measured weighed each eachRead counted listed number numberRead within count fixed bytes flag bit value pair pairRead seq _then_ judged judgeOf judge via home atStart nothing shift mapped andThen pick day leap monthsDays yearsDays dayOf origin dayIn secondIn
 cases-hold =
-    (refl, (refl, (refl, (refl, (refl, (refl, (refl, (refl, (refl, (refl, (refl, (date (plus 2 2) _ _ refl tt, (date (minus 1 1) _ _ refl tt, (date (minus 0 1) _ _ refl tt, (date (minus 657434 0) _ _ refl tt, (date (plus 2958465 2) _ _ refl tt, (date (minus 657435 0) _ _ refl tt, (date (plus 2958466 0) _ _ refl tt, tt))))))))))))))))))
+    (refl, (refl, (refl, (refl, (refl, (refl, (refl, (refl, (refl, (refl, (refl, (date-on (plus 2 2) _ 1900 1 1 noon refl tt, (date-on (minus 1 1) _ 1899 12 29 six refl tt, (date-on (minus 0 1) _ 1899 12 30 six refl tt, (date-on (minus 657434 0) _ 100 1 1 0 refl tt, (date-on (plus 2958465 2) _ 9999 12 31 noon refl tt, (date-no (minus 657435 0) _ refl tt, (date-no (plus 2958466 0) _ refl tt, tt))))))))))))))))))

@@ -13,7 +13,7 @@ use Rattle.format.specs.declared.Fault.{Fault}
 use Rattle.format.specs.declared.Fault.the-variants as Fault
 use Rattle.format.specs.declared.Outcome.{Outcome}
 use Rattle.format.specs.declared.Outcome.the-variants as Outcome
-use Rattle.format.specs.Fault.{numberOf, codeOf}
+use Rattle.format.specs.Fault.{numberOf, codeOf, Said}
 use Rattle.format.specs.Format.{Answer, got, refused, mapped, whole, pick, one, Format, Bytes}
 use Rattle.format.specs.ReadWrite.{within}
 use Rattle.kind.specs.declared.Product.{Product}
@@ -23,14 +23,14 @@ use Rattle.kind.specs.declared.Kind.{Kind}
 use Rattle.kind.specs.declared.Row.{Row}
 use Rattle.kind.specs.declared.Row.the-variants as Row
 use Rattle.kind.specs.Kinds.{kindSays, editionOf, rowOf, rowBy, kindOf}
+use Rattle.date.specs.Double.{accepted}
 use Rattle.moment.specs.declared.Moment.{Moment}
-use Rattle.moment.specs.declared.Moment.the-variants as Moment
-use Rattle.moment.specs.Moment.{momentSays, Says}
+use Rattle.moment.specs.Moment.{momentSays, SaysBy, Says}
 use Rattle.element.specs.Data.{Data, dataOf}
 use Rattle.value.specs.declared.Value.{Value}
 use Rattle.value.specs.declared.Value.the-variants as Value
 use Rattle.value.specs.declared.Valued.the-variants as Valued
-use Rattle.value.specs.Value.{valueSays, fromData, fromKind, fromRow, fromEdition, valueOf}
+use Rattle.value.specs.Value.{valueSays, valueAnswer, fromData, fromKind, fromRow, fromEdition, valueOf}
 use Rattle.put.specs.Plan.{Fitted, holds, lacks, fromSpan, fromValue, isOf, fitted, write, deny, ifRoom, planData, planKind, planRow, planEdition, putting, putSays, Putting, putLeaves}
 use Rattle.rule.specs.Rule.{Rule}
 use Rattle.deck.specs.Deck.{readAs, readDeck, answered, scanned}
@@ -43,9 +43,10 @@ use Rattle.plan.specs.Given.{given, givenBy, withData}
 use Rattle.plan.specs.Found.{Edits}
 use Rattle.start.specs.Start.{startSays, startLeaves, start-none}
 use Rattle.bounds.specs.Data.{row-refuses}
+use Rattle.bounds.specs.Refused.{as-refused}
 use Rattle.bounds.specs.Places.{Lent}
 use Rattle.bounds.specs.Listed.{Numbers, numbers, exactly, allowed, allowed-later, Lists}
-use Rattle.bounds.specs.Faulty.{elementNumbers, element-listed}
+use Rattle.bounds.specs.Faulty.{elementNumbers, ElementListed, element-listed}
 use Rattle.bounds.specs.Calls.{checkNumbers, check-listed, passSays, pass-listed, readNumbers, read-listed, viewNumbers, name-listed, word-listed, fixed-listed, editNumbers, edit-listed}
 
 -- the answer and the buffer of an edit are functions of what it was called with: two outcomes that the promise allows coincide
@@ -133,44 +134,47 @@ start-refuses cap = go (leb 7 cap)
 abbrev pub kindNumbers : List Numbers
 kindNumbers = exactly 1 0 ∷ exactly 9 0 ∷ exactly 10 0 ∷ []
 
-pub kind-refuses : (edition id : ℕ) → Lists kindNumbers (kindSays (kindOf edition id))
+pub kind-refuses : (edition id : ℕ) → Lists kindNumbers (kindOf edition id .0)
 unfolding kindOf rowBy allowed
 kind-refuses edition id = by (editionOf edition)
   where
-    row : (p : Product) (r : Row) → rowOf p id ≡ r → Lists kindNumbers (kindSays r)
+    row : (p : Product) (r : Row) → rowOf p id ≡ r → Lists kindNumbers (kindSays r .0)
     row p (Row.Is k) e = tt
     row p (Row.No c q) e = row-refuses (λ c q. Lists kindNumbers (Outcome.No c q)) (refl, omega arith) (refl, omega arith) p id e
 
-    by : (o : Edition) → Lists kindNumbers (kindSays (rowBy o id))
+    by : (o : Edition) → Lists kindNumbers (rowBy o id .0)
     by (Edition.Of p) = row p (rowOf p id) refl
     by Edition.Unknown = (refl, refl)
 
 -- "a lone date answers 11 at 0"
-pub moment-refuses : (bits : ℕ) (m : Moment) → Says bits m → Lists (exactly 11 0 ∷ []) (momentSays m)
-unfolding allowed
-moment-refuses bits (Moment.At c second) f = tt
-moment-refuses bits (Moment.No c q) f = rw (f .why, f .start) (refl, omega arith)
+pub moment-refuses : (bits : ℕ) (m : Moment) → Says bits m → Lists (exactly 11 0 ∷ []) (momentSays m .0)
+unfolding Says allowed
+moment-refuses bits m = go (accepted bits) (momentSays m)
+  where
+    go : (b : Bool) (x : Said) → SaysBy b bits x → Lists (exactly 11 0 ∷ []) (x .0)
+    go true x f = rw (f .1 .1) tt
+    go false x f = rw f (refl, omega arith)
 
 -- "Turning lone element data into a value takes an edition and answers 1 first, then as for a given element"
 abbrev pub valueNumbers : List Numbers
 valueNumbers = exactly 1 0 ∷ elementNumbers
 
-pub value-refuses : (edition id : ℕ) (s : List ℕ) → Bytes s → Lists valueNumbers (valueSays (valueOf edition id s))
+pub value-refuses : (edition id : ℕ) (s : List ℕ) → Bytes s → Lists valueNumbers (valueAnswer edition id s .0)
 unfolding valueOf fromKind given mapped allowed
 value-refuses edition id s b = by (editionOf edition)
   where
     listed : (p : Product) (c : Fault) (q : ℕ) → given p id s ≡ refused c q → Lists valueNumbers (Outcome.Given c q)
-    listed p c q e = let f = element-listed p id s b c q e in (allowed-later (exactly 1 0) elementNumbers (numberOf c + 32) q (f .0), f .1)
+    listed p c q e = let f = as-refused ElementListed (element-listed p id s b) e in (allowed-later (exactly 1 0) elementNumbers (numberOf c + 32) q (f .0), f .1)
 
-    read : (p : Product) (k : Kind) (a : Answer Data) → given p id s ≡ mapped (withData id) a → Lists valueNumbers (valueSays (fromData k id a))
+    read : (p : Product) (k : Kind) (a : Answer Data) → given p id s ≡ mapped (withData id) a → Lists valueNumbers (valueSays (fromData k id a) .0)
     read p k (got x n) e = tt
     read p k (refused c q) e = listed p c q e
 
-    row : (p : Product) (r : Row) → given p id s ≡ givenBy r id s → Lists valueNumbers (valueSays (fromRow r id s))
+    row : (p : Product) (r : Row) → given p id s ≡ givenBy r id s → Lists valueNumbers (valueSays (fromRow r id s) .0)
     row p (Row.Is k) e = read p k (whole (length s) (dataOf k .read s)) e
     row p (Row.No c q) e = listed p c q e
 
-    by : (o : Edition) → Lists valueNumbers (valueSays (fromEdition o id s))
+    by : (o : Edition) → Lists valueNumbers (valueSays (fromEdition o id s) .0)
     by (Edition.Of p) = row p (rowOf p id) refl
     by Edition.Unknown = (refl, refl)
 

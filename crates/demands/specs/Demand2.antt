@@ -1,23 +1,21 @@
 -- Demand 2: what is read, written again, gives the same bytes; what is written reads back as given; an identifier is judged on all 32 bits
 -- and by the product. Of tables and views: Tables.antt, Views.antt.
-use Prim.Native.Nat.{ℕ, zero, suc, _+_, _≤_, _<_}
-use native.Mathlib.Nat.{add-zero, zero-add}
+use Prim.Native.Nat.{ℕ, _≤_}
 use native.Mathlib.Omega.{arith}
-use native.Mathlib.Decide.{decLt}
-use mathlib.Core.Path.{_≡_, refl, sym}
-use mathlib.Core.Bool.{Bool, true, false, _&&_, Bool·beq}
-use mathlib.Core.List.{List, [], _∷_}
+use mathlib.Core.Path.{_≡_, refl}
+use mathlib.Core.Bool.{Bool, true, false, _||_}
+use mathlib.Core.List.{List, [], _∷_, _++_}
 use lib.ListN.{length}
-use borrow.Author.Needs.{needs}
-use borrow.Author.Tests.{ne-eqb}
+use lib.Dec.{eqb}
 use Rattle.format.specs.declared.Fault.the-variants as Fault
-use Rattle.format.specs.Format.{both, got, Bytes, pick}
+use Rattle.format.specs.Format.{got, Bytes, pick}
 use Rattle.kind.specs.declared.Product.{Product}
 use Rattle.kind.specs.declared.Product.the-variants.{Desk, Studio}
 use Rattle.kind.specs.declared.Role.the-variants.{Condition, Exception}
+use Rattle.kind.specs.declared.Kind.{Kind}
 use Rattle.kind.specs.declared.Kind.the-variants.{Simple}
 use Rattle.kind.specs.declared.Row.the-variants.{Is, No}
-use Rattle.kind.specs.Kinds.{kinds, has, identifiers, rowIn, offered, rowOf, Below, row-past}
+use Rattle.kind.specs.Kinds.{kinds, has, inProduct, identifiers, rowIn, offered, rowOf}
 use Rattle.element.specs.Element.{isRow}
 use Rattle.rule.specs.Rule.{Rule}
 use Rattle.deck.specs.Deck.{deck, readAs, read-writes-back, written-reads-back}
@@ -30,49 +28,43 @@ pub read-then-written : (p : Product) (s : List ℕ) (rs : List Rule) (n : ℕ) 
 read-then-written p s rs n b e = read-writes-back p s rs n b e .is
 
 -- ---- the identifier: accepted by a product exactly when it is among that product's identifiers, whatever number it is
-unfoldable same : Product → ℕ → Bool
-same p id = Bool·beq (isRow (rowOf p id)) (has (identifiers p kinds) id)
+has-append : (xs ys : List ℕ) (id : ℕ) → has (xs ++ ys) id ≡ has xs id || has ys id
+unfolding has
+has-append [] ys id = refl
+has-append (x ∷ xs) ys id = rw (has-append xs ys id) (or-assoc (eqb id x) (has xs id) (has ys id))
+  where
+    or-assoc : (a b c : Bool) → (a || (b || c)) ≡ ((a || b) || c)
+    or-assoc true b c = refl
+    or-assoc false b c = refl
 
-unfoldable allSame : Product → ℕ → ℕ → Bool
-allSame p i zero = true
-allSame p i (suc n) = same p i && allSame p (suc i) n
+-- behind a row that the product lacks it has none
+unfoldable Ends : Product → List (Kind × List ℕ) → Type 0
+Ends p [] = Unit {0}
+Ends p ((k, ids) ∷ rows) = (inProduct p k ≡ false → identifiers p rows ≡ []) × Ends p rows
 
-computed : (p : Product) → allSame p 0 0x220 ≡ true
-unfolding allSame same rowOf offered rowIn has identifiers pick
-computed Desk = refl
-computed Studio = refl
+judged-in : (p : Product) (rows : List (Kind × List ℕ)) (id : ℕ) → Ends p rows → isRow (offered p (rowIn rows id)) ≡ has (identifiers p rows) id
+unfolding Ends rowIn offered has identifiers pick
+judged-in p [] id e = refl
+judged-in p ((k, ids) ∷ rows) id e = go (has ids id) (inProduct p k) refl refl (judged-in p rows id (e .1))
+  where
+    go : (b t : Bool) → has ids id ≡ b → inProduct p k ≡ t → isRow (offered p (rowIn rows id)) ≡ has (identifiers p rows) id
+        → isRow (offered p (pick b (Is k) (rowIn rows id))) ≡ has (pick t ids [] ++ identifiers p rows) id
+    go true true f g i = rw (g, has-append ids (identifiers p rows) id, f)
+    go true false f g i = rw (g, e .0 g)
+    go false true f g i = rw (has-append ids (identifiers p rows) id, f) i
+    go false false f g i = i
 
-same-at : (p : Product) (i n k : ℕ) → allSame p i n ≡ true → k < n → same p (i + k) ≡ true
-unfolding allSame
-same-at p i zero k e h = absurd (omega arith)
-same-at p i (suc n) zero e h = rw add-zero (both (same p i) (allSame p (suc i) n) e .0)
-same-at p i (suc n) (suc k) e h =
-    let z : i + suc k ≡ suc i + k = omega arith in
-    rw z (same-at p (suc i) n k (both (same p i) (allSame p (suc i) n) e .1) (omega arith))
+never : {B : Type 0} → _≡_ {A = Bool} true false → B
+never e = absurd (let z : _≡_ {A = ℕ} 0 1 = cc in omega arith)
 
-beq-is : (a b : Bool) → Bool·beq a b ≡ true → a ≡ b
-beq-is true true e = refl
-beq-is true false e = absurd (let z : _≡_ {A = ℕ} 0 1 = cc in omega arith)
-beq-is false true e = absurd (let z : _≡_ {A = ℕ} 0 1 = cc in omega arith)
-beq-is false false e = refl
-
-past : (id : ℕ) (ids : List ℕ) → Below 0x220 ids → 0x220 ≤ id → has ids id ≡ false
-unfolding has Below
-past id [] b h = refl
-past id (x ∷ xs) b h = rw (ne-eqb id x (λ e. omega (arith, b .0))) (past id xs (b .1) h)
-
-below : (p : Product) → Below 0x220 (identifiers p kinds)
-unfolding Below identifiers pick
-below Desk = search needs
-below Studio = search needs
+ends : (p : Product) → Ends p kinds
+unfolding Ends identifiers pick
+ends Desk = (never, (never, (never, ((λ e. refl), ((λ e. refl), ((λ e. refl), ((λ e. refl), ((λ e. refl), ((λ e. refl), tt)))))))))
+ends Studio = (never, (never, (never, (never, (never, (never, (never, (never, (never, tt)))))))))
 
 pub judged-whole : (p : Product) (id : ℕ) → isRow (rowOf p id) ≡ has (identifiers p kinds) id
-unfolding same rowOf offered
-judged-whole p id =
-    elim (decLt id 0x220) [
-      | yes l ↦ beq-is (isRow (rowOf p id)) (has (identifiers p kinds) id) (rw zero-add at (same-at p 0 0x220 id (computed p) l))
-      | no l ↦ let r : rowIn kinds id ≡ No Fault.Unknown 0 = sym (row-past id (omega arith)) in rw r (sym (past id (identifiers p kinds) (below p) (omega arith)))
-    ]
+unfolding rowOf
+judged-whole p id = judged-in p kinds id (ends p)
 
 -- F5 and 1F5 told apart: a condition in both products, and an exception that Desk does not have
 pub feeds-and-letters : (rowOf Desk 0xF5 ≡ Is (Simple Condition)) × ((rowOf Studio 0x1F5 ≡ Is (Simple Exception)) × (rowOf Desk 0x1F5 ≡ No Fault.Foreign 0))

@@ -1,5 +1,6 @@
 -- The numbers of the refusals: document 01, "Numbers a refusal gives".
 use Prim.Native.Nat.{ℕ, _+_, _*_, _<_}
+use mathlib.Core.List.{List}
 use lib.Dec.{lit<}
 use Rattle.format.specs.declared.Fault.{Fault}
 use Rattle.format.specs.declared.Fault.the-variants.{Edition, Long, Cut, Mark, Version, Count, Form, Field, Unknown, Foreign, Date, Size, Over, Table, Stated, Absent, Text, Rules, Large, Room, Full, Last}
@@ -66,6 +67,10 @@ placeOf (Given c p) = p
 -- "one 64-bit number, code plus 256 times place"
 abbrev pub packed : Outcome → ℕ
 packed o = codeOf o + 256 * placeOf o
+
+-- what an answer that is an enum says: an outcome, for its number and place, and its values as numbers
+abbrev pub Said : Type 0
+Said = Outcome × List ℕ
 
 -- every number of the table is below 32
 pub number-small : (c : Fault) → numberOf c < 32

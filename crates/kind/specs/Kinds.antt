@@ -1,22 +1,22 @@
 -- The kinds of elements: document 01, "The deck", the table of identifiers and the two editions.
-use Prim.Native.Nat.{ℕ, _≤_, _<_}
+use Prim.Native.Nat.{ℕ}
 use native.Mathlib.Omega.{arith}
-use mathlib.Core.Path.{_≡_, refl}
+use mathlib.Core.Path.{_≡_, refl, ap}
 use mathlib.Core.Bool.{Bool, true, false, _||_}
 use mathlib.Core.List.{List, [], _∷_, _++_}
 use lib.ListN.{length}
 use lib.Dec.{eqb}
-use borrow.Author.Tests.{ne-eqb}
-use borrow.Author.Needs.{needs}
 use Rattle.format.specs.declared.Fault.{Fault}
 use Rattle.format.specs.declared.Fault.the-variants as Fault
 use Rattle.format.specs.declared.Outcome.{Outcome}
 use Rattle.format.specs.declared.Outcome.the-variants as Outcome
+use Rattle.format.specs.Fault.{Said}
 use Rattle.format.specs.Format.{pick}
 use Rattle.kind.specs.declared.Product.{Product}
 use Rattle.kind.specs.declared.Product.the-variants.{Desk, Studio}
 use Rattle.kind.specs.declared.Edition.{Edition}
 use Rattle.kind.specs.declared.Edition.the-variants as Edition
+use Rattle.kind.specs.declared.Role.{Role}
 use Rattle.kind.specs.declared.Role.the-variants.{Condition, Action, Exception}
 use Rattle.kind.specs.declared.Kind.{Kind}
 use Rattle.kind.specs.declared.Kind.the-variants.{Marker, Simple, WordList, Size, Dates}
@@ -74,18 +74,35 @@ offered p (No c q) = No c q
 unfoldable pub rowOf : Product → ℕ → Row
 rowOf p id = offered p (rowIn kinds id)
 
--- "An identifier alone takes an edition and answers its row of the kinds, or 1, 9 or 10 at 0"
-unfoldable pub rowBy : Edition → ℕ → Row
-rowBy (Edition.Of p) id = rowOf p id
-rowBy Edition.Unknown id = No Fault.Edition 0
+-- ---- "An identifier alone takes an edition and answers its row of the kinds, or 1, 9 or 10 at 0"
 
-unfoldable pub kindOf : ℕ → ℕ → Row
-kindOf edition id = rowBy (editionOf edition) id
+-- a role by its number: 0 is none
+abbrev pub roleNumber : Role → ℕ
+roleNumber Condition = 1
+roleNumber Action = 2
+roleNumber Exception = 3
+
+-- a kind by its row of document 01's table, from 0, and its role
+abbrev pub kindValues : Kind → List ℕ
+kindValues Marker = 0 ∷ 0 ∷ []
+kindValues (Simple Condition) = 1 ∷ 1 ∷ []
+kindValues (Simple Action) = 2 ∷ 2 ∷ []
+kindValues (Simple Exception) = 3 ∷ 3 ∷ []
+kindValues WordList = 4 ∷ 3 ∷ []
+kindValues (Size r) = 5 ∷ roleNumber r ∷ []
+kindValues (Dates r) = 6 ∷ roleNumber r ∷ []
 
 -- the answer as document 01 has it
-abbrev pub kindSays : Row → Outcome
-kindSays (Is k) = Outcome.Done 0
-kindSays (No c q) = Outcome.No c q
+abbrev pub kindSays : Row → Said
+kindSays (Is k) = (Outcome.Done 0, kindValues k)
+kindSays (No c q) = (Outcome.No c q, [])
+
+unfoldable pub rowBy : Edition → ℕ → Said
+rowBy (Edition.Of p) id = kindSays (rowOf p id)
+rowBy Edition.Unknown id = (Outcome.No Fault.Edition 0, [])
+
+unfoldable pub kindOf : ℕ → ℕ → Said
+kindOf edition id = rowBy (editionOf edition) id
 
 -- the identifiers of a product: 17 in Desk, 35 in Studio
 unfoldable pub identifiers : Product → List (Kind × List ℕ) → List ℕ
@@ -137,36 +154,10 @@ foreign p j {c} {q} e = go (inProduct p j) e
 -- ---- as the code finds it
 
 module _ (edition id : ℕ) {e : Edition} where
-  pub kind-in : {p : Product} {r : Row} → e ≡ editionOf edition → e ≡ Edition.Of p → r ≡ rowOf p id → r ≡ kindOf edition id
+  pub kind-in : {p : Product} {r : Row} → e ≡ editionOf edition → e ≡ Edition.Of p → r ≡ rowOf p id → kindSays r ≡ kindOf edition id
   unfolding kindOf rowBy
-  kind-in f h o = rw (← f, h) o
+  kind-in f h o = rw (← f, h) (ap kindSays o)
 
-  pub kind-none : e ≡ editionOf edition → e ≡ Edition.Unknown → No Fault.Edition 0 ≡ kindOf edition id
+  pub kind-none : e ≡ editionOf edition → e ≡ Edition.Unknown → kindSays (No Fault.Edition 0) ≡ kindOf edition id
   unfolding kindOf rowBy
   kind-none f h = rw (← f, h)
-
--- what is not below n is in no list and in no row of numbers below n
-unfoldable pub Below : ℕ → List ℕ → Type 0
-Below n [] = Unit {0}
-Below n (x ∷ xs) = (x < n) × Below n xs
-
-unfoldable pub RowsBelow : ℕ → List (Kind × List ℕ) → Type 0
-RowsBelow n [] = Unit {0}
-RowsBelow n ((k, ids) ∷ rows) = Below n ids × RowsBelow n rows
-
-has-not : (n id : ℕ) (ids : List ℕ) → Below n ids → n ≤ id → has ids id ≡ false
-unfolding has Below
-has-not n id [] b h = refl
-has-not n id (x ∷ xs) b h = rw (ne-eqb id x (λ e. omega (arith, b .0))) (has-not n id xs (b .1) h)
-
-row-not : (n id : ℕ) (rows : List (Kind × List ℕ)) → RowsBelow n rows → n ≤ id → No Fault.Unknown 0 ≡ rowIn rows id
-unfolding rowIn RowsBelow pick
-row-not n id [] b h = refl
-row-not n id ((k, ids) ∷ rows) b h = rw (has-not n id ids (b .0) h) (row-not n id rows (b .1) h)
-
-all-below : RowsBelow 0x220 kinds
-unfolding RowsBelow Below
-all-below = search needs
-
-pub row-past : (id : ℕ) → 0x220 ≤ id → No Fault.Unknown 0 ≡ rowIn kinds id
-row-past id h = row-not 0x220 id kinds all-below h

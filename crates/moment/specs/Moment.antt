@@ -1,11 +1,11 @@
 -- What a date says: document 01, "Dates".
 use Prim.Native.Nat.{ℕ, _+_, _-_, _*_, _/_, _%_}
 use mathlib.Core.Path.{_≡_, refl}
-use mathlib.Core.Bool.{true, false}
-use Rattle.format.specs.declared.Outcome.{Outcome}
+use mathlib.Core.Bool.{Bool, true, false}
+use mathlib.Core.List.{[], _∷_}
 use Rattle.format.specs.declared.Outcome.the-variants as Outcome
+use Rattle.format.specs.Fault.{Said}
 use Rattle.format.specs.Format.{pick}
-use Rattle.format.specs.declared.Fault.{Fault}
 use Rattle.format.specs.declared.Fault.the-variants as Fault
 use Rattle.civil.specs.declared.Civil.{Civil}
 use Rattle.civil.specs.Calendar.{leap, monthsDays, yearsDays, Valid, dayOf}
@@ -32,23 +32,25 @@ dayIn bits = pick (negative bits) (origin - wholeDays bits) (origin + wholeDays 
 unfoldable pub secondIn : ℕ → ℕ
 secondIn bits = size bits % day * 86400 / day
 
--- "a lone date answers 11 at 0"; else the date that the calendar has for its day, and the second
-pub record Shows (bits : ℕ) (c : Civil) (second : ℕ) : Type 0 where
-  pub accepts : accepted bits ≡ true
-  pub valid : Valid c
-  pub on : dayOf c ≡ dayIn bits
-  pub at : second ≡ secondIn bits
+-- the answer as document 01 has it: year, month, day, and the second of the day
+abbrev pub momentSays : Moment → Said
+momentSays (At c second) = (Outcome.Done 0, c .year ∷ c .month ∷ c .day ∷ second ∷ [])
+momentSays (No fault place) = (Outcome.No fault place, [])
 
-pub record Refuses (bits : ℕ) (fault : Fault) (place : ℕ) : Type 0 where
-  pub not-accepted : accepted bits ≡ false
-  pub why : fault ≡ Fault.Date
-  pub start : place ≡ 0
+-- of a date, what the calendar has for its day, and its second; "a lone date answers 11 at 0"
+abbrev pub SaysBy : Bool → ℕ → Said → Type 0
+SaysBy true bits x = (c : Civil) × ((Valid c × (dayOf c ≡ dayIn bits)) × (x ≡ momentSays (At c (secondIn bits))))
+SaysBy false bits x = x ≡ momentSays (No Fault.Date 0)
 
-abbrev pub Says : ℕ → Moment → Type 0
-Says bits (At c second) = Shows bits c second
-Says bits (No fault place) = Refuses bits fault place
+unfoldable pub Says : ℕ → Moment → Type 0
+Says bits r = SaysBy (accepted bits) bits (momentSays r)
 
--- the answer as document 01 has it
-abbrev pub momentSays : Moment → Outcome
-momentSays (At c second) = Outcome.Done 0
-momentSays (No fault place) = Outcome.No fault place
+-- as the code finds it
+module _ (bits : ℕ) where
+  pub says-at : (c : Civil) (second : ℕ) → accepted bits ≡ true → Valid c × (dayOf c ≡ dayIn bits) → second ≡ secondIn bits → Says bits (At c second)
+  unfolding Says
+  says-at c second e d h = rw (e, h) (c, (d, refl))
+
+  pub says-no : accepted bits ≡ false → Says bits (No Fault.Date 0)
+  unfolding Says
+  says-no e = rw e refl

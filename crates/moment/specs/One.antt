@@ -1,19 +1,36 @@
 -- Two outcomes that the promise of a date allows coincide. Assumes nothing.
 use Prim.Native.Nat.{ℕ}
-use mathlib.Core.Path.{_≡_, sym, ap₂, _∙_, subst}
-use mathlib.Core.Bool.{true, false}
-use lib.Dec.{T}
+use mathlib.Core.Path.{_≡_, refl, sym, ap, ap₂, _∙_}
+use mathlib.Core.Bool.{Bool, true, false}
+use mathlib.Core.List.{List, [], _∷_}
+use Rattle.format.specs.declared.Fault.the-variants as Fault
+use Rattle.format.specs.declared.Outcome.the-variants as Outcome
+use Rattle.format.specs.Fault.{Said}
+use Rattle.civil.specs.declared.Civil.{Civil}
 use Rattle.civil.specs.Unique.{unique}
 use Rattle.date.specs.Double.{accepted}
 use Rattle.moment.specs.declared.Moment.{Moment}
 use Rattle.moment.specs.declared.Moment.the-variants.{At, No}
-use Rattle.moment.specs.Moment.{Says}
+use Rattle.moment.specs.Moment.{secondIn, momentSays, SaysBy, Says}
 
-apart : {X : Type 0} (bits : ℕ) → accepted bits ≡ true → accepted bits ≡ false → X
-apart bits p q = absurd (subst T (sym p ∙ q) tt)
+-- what a moment says gives it back
+abbrev momentFrom : Said → Moment
+momentFrom (Outcome.Done n, []) = No Fault.Date 0
+momentFrom (Outcome.Done n, (y ∷ [])) = No Fault.Date 0
+momentFrom (Outcome.Done n, (y ∷ (m ∷ []))) = No Fault.Date 0
+momentFrom (Outcome.Done n, (y ∷ (m ∷ (d ∷ [])))) = No Fault.Date 0
+momentFrom (Outcome.Done n, (y ∷ (m ∷ (d ∷ (s ∷ later))))) = At (record { year = y; month = m; day = d }) s
+momentFrom (Outcome.No c q, vs) = No c q
+momentFrom (Outcome.Given c q, vs) = No c q
+
+moment-from : (r : Moment) → momentFrom (momentSays r) ≡ r
+moment-from (At c s) = refl
+moment-from (No f p) = refl
+
+said-one : (b : Bool) (bits : ℕ) (x y : Said) → SaysBy b bits x → SaysBy b bits y → x ≡ y
+said-one true bits x y f g = f .1 .1 ∙ ap (λ (c : Civil). momentSays (At c (secondIn bits))) (unique (f .0) (g .0) (f .1 .0 .0) (g .1 .0 .0) (f .1 .0 .1 ∙ sym (g .1 .0 .1))) ∙ sym (g .1 .1)
+said-one false bits x y f g = f ∙ sym g
 
 pub says-one : (bits : ℕ) (r q : Moment) → Says bits r → Says bits q → r ≡ q
-says-one bits (At c s) (At d t) a b = ap₂ At (unique c d (a .valid) (b .valid) (a .on ∙ sym (b .on))) (a .at ∙ sym (b .at))
-says-one bits (At c s) (No f p) a b = apart bits (a .accepts) (b .not-accepted)
-says-one bits (No f p) (At c s) a b = apart bits (b .accepts) (a .not-accepted)
-says-one bits (No f p) (No g o) a b = ap₂ No (a .why ∙ sym (b .why)) (a .start ∙ sym (b .start))
+unfolding Says
+says-one bits r q f g = sym (moment-from r) ∙ ap momentFrom (said-one (accepted bits) bits (momentSays r) (momentSays q) f g) ∙ moment-from q

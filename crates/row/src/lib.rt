@@ -6,7 +6,7 @@ use kind::Product;
 use kind::Role;
 use kind::Row;
 ghost use mathlib.Core.Path.{_≡_};
-ghost use Rattle.kind.specs.Kinds.{rowIn, kinds, rowOf, kindOf};
+ghost use Rattle.kind.specs.Kinds.{rowIn, kinds, rowOf, kindSays, kindOf};
 ghost use Rattle.row.specs.Lines.{rowAt, digitOf, lineOf, lacksAt};
 
 // The rows of the sixteen identifiers from 16 n on, a digit of four bits each, the lowest first: by `row_at`.
@@ -78,7 +78,7 @@ pub fn row_for(product: Product, identifier: u64) -> Row
 
 // The row of an identifier in an edition.
 pub fn kind_of(edition: u64, identifier: u32) -> Row
-    ensures { λ r. ⌜ r ≡ kindOf edition identifier ⌝ }
+    ensures { λ r. ⌜ kindSays r ≡ kindOf edition identifier ⌝ }
 {
     let e = kind::edition_of(edition);
     let Edition::Of(product) = e else {

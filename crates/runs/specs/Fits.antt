@@ -6,11 +6,11 @@ use mathlib.Core.Bool.{Bool, true, false}
 use mathlib.Core.List.{List, [], _∷_, _++_}
 use lib.Dec.{lit<, eqb}
 use lib.ListN.{length, take, drop, length-append}
-use borrow.Author.Tests.{le-leb, eq-eqb}
+use borrow.Author.Tests.{eq-eqb}
 use Rattle.format.specs.declared.Fault.the-variants as Fault
 use Rattle.format.specs.Format.{pick}
 use Rattle.format.specs.ReadWrite.{within, value, bit, AllFit}
-use Rattle.format.specs.Laws.ReadWrite.{within-is}
+use Rattle.format.specs.Laws.ReadWrite.{within-is, within-fits}
 use Rattle.format.specs.Combinators.{pair, seq, _then_, judged, via, number, count, fixed, bytes, flag, each, counted, sized, measured}
 use Rattle.text.specs.Text.{string}
 use Rattle.kind.specs.declared.Product.{Product}
@@ -83,10 +83,6 @@ head-fits i = go (eqb i 0)
     go : (b : Bool) → pick b firstHead separator .Fit tt
     go true = ((((lit< tt, refl), refl), ((((lit< tt, refl), refl), ((((lit< tt, refl), refl), ((lit< tt, refl), refl)), refl)), refl)), refl)
     go false = ((lit< tt, refl), refl)
-
-pub within-fits : (low high n : ℕ) → low ≤ n → n ≤ high → within low high n ≡ true
-unfolding within
-within-fits low high n h k = rw (le-leb low n h, le-leb n high k)
 
 pub fits-there : (p : Product) (i : ℕ) (r : Rule) → Fits p r → sizeOf i (r .elements) < 256 ^ 4 → rule p i .Fit r
 unfolding rule fields fromUnknown2 fromUnknown4 body sized counted count seq via judged pair measured _then_ each number

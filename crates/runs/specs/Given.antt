@@ -10,7 +10,7 @@ use Rattle.format.specs.declared.Fault.{Fault}
 use Rattle.format.specs.declared.Fault.the-variants as Fault
 use Rattle.format.specs.Format.{Answer, got, refused, Bytes, pick, whole, apart, mapped-got}
 use Rattle.format.specs.ReadWrite.{AllFit}
-use Rattle.format.specs.Laws.ReadWrite.{all-append}
+use Rattle.format.specs.Laws.ReadWrite.{within-fits, all-append}
 use Rattle.format.specs.Combinators.{pair, judged, via, atStart, nothing, seq, _then_, number, fixed, count, each, counted, listed}
 use Rattle.text.specs.Text.{extended, stringLength, string, word}
 use Rattle.kind.specs.declared.Product.{Product}
@@ -23,7 +23,6 @@ use Rattle.element.specs.Data.{words, dataOf, markerData, simpleData, wordData,
 use Rattle.element.specs.Element.{Element, element, identifier, isRow, dataBy}
 use Rattle.plan.specs.Given.{isText, units, given, givenBy, withData}
 use Rattle.parts.specs.Text.{text-units}
-use Rattle.runs.specs.Fits.{within-fits}
 
 -- ---- texts
 units-fit : (i : ℕ) (s : List ℕ) → Bytes s → AllFit (λ j. number 2) i (units s)

@@ -1,17 +1,15 @@
 -- What stands at a place of a slice: a value of a format, and of the formats that it is made of.
 use Prim.Native.Nat.{ℕ, _+_}
 use mathlib.Core.Path.{_≡_, _∙_}
-use mathlib.Core.Bool.{Bool}
 use mathlib.Core.List.{List, _++_, append-assoc}
 use lib.ListN.{length, drop}
 use lib.Seq.{drop-append-seam, drop-drop}
-use Rattle.format.specs.declared.Fault.{Fault}
 use Rattle.format.specs.declared.Read.{Read}
 use Rattle.format.specs.declared.Read.the-variants.{Got}
 use Rattle.format.specs.Format.{got, Bytes, bytes-drop, Format}
 use Rattle.format.specs.ReadWrite.{pairWrite}
-use Rattle.format.specs.Combinators.{pair, seq, _then_, judged, via}
-use Rattle.format.specs.Written.{seen-back, Held}
+use Rattle.format.specs.Combinators.{pair, seq, _then_, via}
+use Rattle.format.specs.Written.{Held}
 use Rattle.format.specs.Back.{seen-fits}
 use Rattle.format.specs.Seen.{seen, itself}
 
@@ -20,10 +18,6 @@ pub held-read : {A : Type 0} (a : Format A) (s : List ℕ) (at : ℕ) {x : A} {n
 held-read a s at {x} {n} bs e =
     let f = a .forth (drop at s) x n (bytes-drop at s bs) e in
     (drop n (drop at s), record { is = f .is; fit = f .fit })
-
--- and what stands there is read
-pub held-seen : {A : Type 0} (g : A → ℕ) (a : Format A) (s : List ℕ) (at : ℕ) {x : A} → Held a s at x → seen g a s at ≡ Got (g x) (at + length (a .write x))
-held-seen g a s at {x} h = seen-back g a x s at (h .0) (h .1 .fit) (h .1 .is)
 
 -- of two one after the other, each stands at its place
 module _ {A B : Type 0} (a : Format A) (b : A → Format B) (s : List ℕ) (at : ℕ) {p : A × B} where
@@ -53,10 +47,6 @@ held-via a to from same s at h = (h .0, record { is = h .1 .is; fit = h .1 .fit 
 pub held-then : {B : Type 0} (a : Format (Unit {0})) (b : Format B) (s : List ℕ) (at m : ℕ) {y : B} → Held (a then b) s at y → m ≡ at + length (a .write tt) → Held b s m y
 unfolding _then_ seq
 held-then a b s at m h e = held-second a (λ u. b) s at m (held-via (pair a (λ u. b)) (λ p. p .1) (λ y. (tt, y)) _ s at h) e
-
-pub held-judged : {A : Type 0} (ok : A → Bool) (c : Fault) (a : Format A) (s : List ℕ) (at : ℕ) {x : A} → Held (judged ok c a) s at x → Held a s at x
-unfolding judged
-held-judged ok c a s at h = (h .0, record { is = h .1 .is; fit = h .1 .fit .0 })
 
 -- a number that was read fits
 pub seen-fit : (a : Format ℕ) (s : List ℕ) (at : ℕ) {r : Read} {v m : ℕ} → Bytes s → r ≡ seen itself a s at → r ≡ Got v m → a .Fit v

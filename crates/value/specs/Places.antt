@@ -1,31 +1,32 @@
 -- Sound data by the places of their fields, as the code reads them.
 use Prim.Native.Nat.{ℕ, _+_, _<_, _^_}
 use native.Mathlib.Omega.{arith}
-use native.Mathlib.Nat.{zero-add}
 use mathlib.Core.Path.{_≡_, refl, sym, ap, ap₂, _∙_}
-use mathlib.Core.Bool.{Bool, true, false}
+use mathlib.Core.Bool.{Bool, true}
 use mathlib.Core.List.{List}
 use lib.Dec.{eqb}
 use lib.ListN.{length, getD}
 use borrow.Author.Tests.{eq-eqb, ne-eqb}
-use lib.Ieee.{Float, binary64, ofBits}
+use lib.Ieee.{binary64, ofBits}
 use mir.Syntax.{w8}
 use mir.Val.{Fits}
 use Rattle.format.specs.declared.Fault.{Fault}
 use Rattle.format.specs.declared.Fault.the-variants as Fault
 use Rattle.format.specs.declared.Read.{Read}
 use Rattle.format.specs.declared.Read.the-variants.{Got, No}
-use Rattle.format.specs.Format.{Answer, got, refused, Bytes, bytes-all, pick, whole}
+use Rattle.format.specs.Format.{Answer, Format, bytes-all, pick, whole}
 use Rattle.format.specs.ReadWrite.{pairWrite, spelt, bit}
-use Rattle.format.specs.Combinators.{pair, seq, _then_, judged, via, number, count, fixed, flag, listed, counted}
-use Rattle.format.specs.Seen.{seen, told, itself, none}
+use Rattle.format.specs.Laws.ReadWrite.{eqb-bit}
+use Rattle.format.specs.Combinators.{pair, seq, _then_, judged, via, number, fixed, flag}
+use Rattle.format.specs.Seen.{seen, told-got, told-no, itself, none}
 use Rattle.date.specs.Double.{accepted}
-use Rattle.element.specs.Data.{Data, Limit, oneZero, limit, wordData, sizeData, dateData, dataOf, wordsOf, sizesOf, spanOf}
+use Rattle.element.specs.Data.{Data, Limit, oneZero, limit, wordData, sizeData, dateData, dataOf, wordsOf, sizesOf, spanOf, list-parts}
 use Rattle.value.specs.declared.Valued.{Valued}
 use Rattle.value.specs.declared.Valued.the-variants as Valued
-use Rattle.value.specs.Value.{floats, valueIn, fromData, fromKind, valueOf}
+use Rattle.value.specs.Value.{floats, valueIn, fromData, fromKind, valueOf, valueSays, valueAnswer}
 use Rattle.format.specs.Written.{Held}
-use Rattle.value.specs.Held.{held-read, held-seen, held-first, held-second, held-via, held-then, held-judged, seen-fit}
+use Rattle.format.specs.Back.{Where, back-got, back-no}
+use Rattle.value.specs.Held.{held-read, held-first, held-second, held-via, held-then, seen-fit}
 use Rattle.date.specs.Date.{date}
 use Rattle.kind.specs.declared.Product.{Product}
 use Rattle.kind.specs.declared.Edition.{Edition}
@@ -35,38 +36,24 @@ use Rattle.kind.specs.declared.Row.the-variants as Row
 use Rattle.kind.specs.Kinds.{editionOf, rowOf}
 use Rattle.kind.specs.declared.Kind.{Kind}
 use Rattle.kind.specs.declared.Kind.the-variants as Kind
-use Rattle.value.specs.declared.Span.{Span}
 use Rattle.value.specs.declared.Value.{Value}
 use Rattle.value.specs.declared.Value.the-variants as Value
 
-abbrev pub valueOr0 : Read → ℕ
-valueOr0 (Got v n) = v
-valueOr0 (No c p) = 0
+-- the fault of a refused reading; of another, that bytes are left over behind it
+abbrev pub givenBy : Read → Valued
+givenBy (Got v n) = Valued.Given Fault.Over n
+givenBy (No c q) = Valued.Given c q
 
-abbrev pub numberAt : List ℕ → ℕ → ℕ
-numberAt s at = valueOr0 (seen itself (number 4) s at)
+-- the fault of an identifier without a row
+abbrev pub offBy : Row → Valued
+offBy (Row.Is k) = Valued.Given Fault.Unknown 0
+offBy (Row.No c q) = Valued.Given c q
 
-abbrev pub dateAt : List ℕ → ℕ → Float
-dateAt s at = ofBits binary64 (valueOr0 (seen itself date s at))
-
-unfoldable pub spanAt : List ℕ → Span
-spanAt s = record { starts = eqb (numberAt s 8) 1; ends = eqb (numberAt s 24) 1; after = dateAt s 16; before = dateAt s 32 }
-
-unfoldable pub valueAt : Kind → ℕ → List ℕ → Value
-valueAt Kind.Marker id s = Value.Marker
-valueAt (Kind.Simple r) id s = Value.Simple id
-valueAt Kind.WordList id s = Value.Words (numberAt s 0)
-valueAt (Kind.Size r) id s = Value.Size (numberAt s 8) (numberAt s 12)
-valueAt (Kind.Dates r) id s = Value.Dates (spanAt s)
+-- whatever data stand at the start, v is the value that f has of them
+abbrev pub Holds : Format Data → List ℕ → (Data → Value) → Valued → Type 0
+Holds a s f v = Where a s 0 (λ d. Valued.Is (f d)) v
 
 -- ---- what a field's reader says
-
-module _ {r x : Read} where
-  pub or0-got : {v n : ℕ} → r ≡ x → r ≡ Got v n → v ≡ valueOr0 x
-  or0-got e h = sym (ap valueOr0 h) ∙ ap valueOr0 e
-
-  pub or0-no : {c : Fault} {p : ℕ} → r ≡ x → r ≡ No c p → 0 ≡ valueOr0 x
-  or0-no e h = sym (ap valueOr0 h) ∙ ap valueOr0 e
 
 module _ (s : List ℕ) (at : ℕ) {r : Read} {v m : ℕ} (bs : (i : ℕ) → Fits w8 (getD s i 0)) where
   pub number-fits : (k : ℕ) → r ≡ seen itself (number k) s at → r ≡ Got v m → v < 256 ^ k
@@ -77,7 +64,13 @@ module _ (s : List ℕ) (at : ℕ) {r : Read} {v m : ℕ} (bs : (i : ℕ) → Fi
   unfolding date judged
   date-fits e h = seen-fit date s at (bytes-all s bs) e h .1
 
--- ---- sound data, field by field
+-- ---- the fields of sound data
+
+-- a field is not there, so no data are
+pub holds-none : {B : Type 0} (g : B → ℕ) (b : Format B) (a : Format Data) (s : List ℕ) (at : ℕ) (f : Data → Value) (v : Valued) {r : Read} {c : Fault} {q : ℕ}
+    → ((d : Data) → Held a s 0 d → (y : B) × Held b s at y) → r ≡ seen g b s at → r ≡ No c q → Holds a s f v
+unfolding Where
+holds-none g b a s at f v part e h d x = back-no g b s at (part d x .1 .1) e h
 
 -- how long the fields are, whatever they hold
 one-zero-long : 8 ≡ 0 + length (oneZero .write tt)
@@ -100,106 +93,118 @@ limit-long : (at : ℕ) (l : Limit) → at + 16 ≡ at + length (limit .write l)
 unfolding limit flag fixed date _then_ seq pair pairWrite via judged number spelt
 limit-long at l = refl
 
-pub number-stands : (s : List ℕ) (at : ℕ) {x : ℕ} → Held (number 4) s at x → numberAt s at ≡ x
-number-stands s at h = ap valueOr0 (held-seen itself (number 4) s at h)
-
-pub date-stands : (s : List ℕ) (at : ℕ) {x : ℕ} → Held date s at x → dateAt s at ≡ ofBits binary64 x
-date-stands s at h = ap (λ (r : Read). ofBits binary64 (valueOr0 r)) (held-seen itself date s at h)
-
-flag-stands : (s : List ℕ) (at : ℕ) {b : Bool} → Held flag s at b → eqb (numberAt s at) 1 ≡ b
-unfolding flag bit pick
-flag-stands s at {b} h = ap (λ (n : ℕ). eqb n 1) (number-stands s at (held-judged _ _ _ s at (held-via _ _ bit _ s at h))) ∙ go b
-  where
-    go : (b : Bool) → eqb (bit b) 1 ≡ b
-    go true = refl
-    go false = refl
-
 -- one end of a date span: 16 bytes, the flag and the date
-module _ (s : List ℕ) (at : ℕ) {l : Limit} (h : Held limit s at l) where
-  pub limit-set : eqb (numberAt s at) 1 ≡ l .set
-  unfolding limit seq
-  limit-set = flag-stands s at (held-first _ _ s at (held-via _ _ _ _ s at h))
+limit-parts : (s : List ℕ) (at : ℕ) {l : Limit} → Held limit s at l → Held flag s at (l .set) × Held date s (at + 8) (l .at)
+unfolding limit seq
+limit-parts s at {l} h =
+    let z = held-second flag (λ b. fixed 4 0 Fault.Field then date) s at (at + 4) (held-via _ _ _ _ s at h) (flag-long at (l .set)) in
+    (held-first _ _ s at (held-via _ _ _ _ s at h), held-then _ date s (at + 4) (at + 8) z (omega (arith, zero-long (at + 4))))
 
-  pub limit-at : dateAt s (at + 8) ≡ ofBits binary64 (l .at)
-  unfolding limit seq
-  limit-at =
-      let z = held-second flag (λ b. fixed 4 0 Fault.Field then date) s at (at + 4) (held-via _ _ _ _ s at h) (flag-long at (l .set)) in
-      date-stands s (at + 8) (held-then _ date s (at + 4) (at + 8) z (omega (arith, zero-long (at + 4))))
+module _ (s : List ℕ) (d : Data) where
+  pub words-number : Held wordData s 0 d → Held (number 4) s 0 (length (wordsOf d))
+  words-number h = list-parts s 0 d (h .0) (h .1) .0
 
-words-stand : (s : List ℕ) {d : Data} → Held wordData s 0 d → numberAt s 0 ≡ length (wordsOf d)
-unfolding wordData listed counted count
-words-stand s h = number-stands s 0 (held-judged _ _ _ s 0 (held-first _ _ s 0 (held-via _ _ _ _ s 0 (held-via _ _ _ _ s 0 h))))
+  pub sizes-numbers : Held sizeData s 0 d → Held (number 4) s 8 (sizesOf d .0) × Held (number 4) s 12 (sizesOf d .1)
+  unfolding sizeData seq
+  sizes-numbers h =
+      let g = held-then oneZero _ s 0 8 (held-via _ _ _ _ s 0 h) one-zero-long in
+      (held-first _ _ s 8 g, held-second _ _ s 8 12 g (number-long 8 (sizesOf d .0)))
 
-sizes-stand : (s : List ℕ) {d : Data} → Held sizeData s 0 d → (numberAt s 8 ≡ sizesOf d .0) × (numberAt s 12 ≡ sizesOf d .1)
-unfolding sizeData seq
-sizes-stand s {d} h =
-    let g = held-then oneZero _ s 0 8 (held-via _ _ _ _ s 0 h) one-zero-long in
-    (number-stands s 8 (held-first _ _ s 8 g), number-stands s 12 (held-second _ _ s 8 12 g (number-long 8 (sizesOf d .0))))
+  span-limits : Held dateData s 0 d → Held limit s 8 (spanOf d .0) × Held limit s 24 (spanOf d .1)
+  unfolding dateData seq
+  span-limits h =
+      let g = held-then oneZero _ s 0 8 (held-via _ _ _ _ s 0 h) one-zero-long in
+      (held-first _ _ s 8 g, held-second _ _ s 8 24 g (limit-long 8 (spanOf d .0)))
 
-span-stands : (s : List ℕ) {d : Data} → Held dateData s 0 d → spanAt s ≡ floats (spanOf d)
-unfolding dateData seq spanAt
-span-stands s {d} h =
-    let g = held-then oneZero _ s 0 8 (held-via _ _ _ _ s 0 h) one-zero-long in
-    let a = held-first _ _ s 8 g in
-    let b = held-second _ _ s 8 24 g (limit-long 8 (spanOf d .0)) in
-    rw (limit-set s 8 a, limit-at s 8 a, limit-set s 24 b, limit-at s 24 b)
+  pub span-starts : Held dateData s 0 d → Held flag s 8 (spanOf d .0 .set) × Held date s 16 (spanOf d .0 .at)
+  span-starts h = limit-parts s 8 (span-limits h .0)
 
--- the value in sound data
-pub value-stands : (k : Kind) (id : ℕ) (s : List ℕ) {d : Data} → Held (dataOf k) s 0 d → valueAt k id s ≡ valueIn k id d
-unfolding valueAt
-value-stands Kind.Marker id s h = refl
-value-stands (Kind.Simple r) id s h = refl
-value-stands Kind.WordList id s h = ap Value.Words (words-stand s h)
-value-stands (Kind.Size r) id s h = let p = sizes-stand s h in ap₂ Value.Size (p .0) (p .1)
-value-stands (Kind.Dates r) id s h = ap Value.Dates (span-stands s h)
+  pub span-ends : Held dateData s 0 d → Held flag s 24 (spanOf d .1 .set) × Held date s 32 (spanOf d .1 .at)
+  span-ends h = limit-parts s 24 (span-limits h .1)
+
+-- ---- as the code reads them
+
+module _ (s : List ℕ) {r : Read} {v m : ℕ} where
+  number-is : (at : ℕ) {x : ℕ} → Held (number 4) s at x → r ≡ seen itself (number 4) s at → r ≡ Got v m → v ≡ x
+  number-is at x e h = back-got itself (number 4) s at (x .1) e h .0
+
+  flag-is : (at : ℕ) {b : Bool} → Held flag s at b → r ≡ seen bit flag s at → r ≡ Got v m → eqb v 1 ≡ b
+  flag-is at {b} x e h = ap (λ (n : ℕ). eqb n 1) (back-got bit flag s at (x .1) e h .0) ∙ eqb-bit b
+
+  date-is : (at : ℕ) {x : ℕ} → Held date s at x → r ≡ seen itself date s at → r ≡ Got v m → ofBits binary64 v ≡ ofBits binary64 x
+  date-is at x e h = ap (ofBits binary64) (back-got itself date s at (x .1) e h .0)
+
+module _ (s : List ℕ) {r : Read} {v m : ℕ} where
+  pub words-are : r ≡ seen itself (number 4) s 0 → r ≡ Got v m → Holds wordData s (λ d. Value.Words (length (wordsOf d))) (Valued.Is (Value.Words v))
+  unfolding Where
+  words-are e h d x = ap (λ (n : ℕ). Valued.Is (Value.Words n)) (number-is s 0 (words-number s d x) e h)
+
+  pub sizes-are : {q : Read} {w l : ℕ} → r ≡ seen itself (number 4) s 8 → r ≡ Got v m → q ≡ seen itself (number 4) s 12 → q ≡ Got w l
+      → Holds sizeData s (λ d. Value.Size (sizesOf d .0) (sizesOf d .1)) (Valued.Is (Value.Size v w))
+  unfolding Where
+  sizes-are e h f k d x = let p = sizes-numbers s d x in ap₂ (λ (a b : ℕ). Valued.Is (Value.Size a b)) (number-is s 8 (p .0) e h) (number-is s 12 (p .1) f k)
+
+pub span-is : (s : List ℕ) {f a g b : Read} {starts after ends before i j k l : ℕ} → f ≡ seen bit flag s 8 → f ≡ Got starts i → a ≡ seen itself date s 16 → a ≡ Got after j
+    → g ≡ seen bit flag s 24 → g ≡ Got ends k → b ≡ seen itself date s 32 → b ≡ Got before l
+    → Holds dateData s (λ d. Value.Dates (floats (spanOf d))) (Valued.Is (Value.Dates (record { starts = eqb starts 1; ends = eqb ends 1; after = ofBits binary64 after; before = ofBits binary64 before })))
+unfolding Where
+span-is s ef hf ea ha eg hg eb hb d x =
+    let p = span-starts s d x in
+    let q = span-ends s d x in
+    rw (flag-is s 8 (p .0) ef hf, date-is s 16 (p .1) ea ha, flag-is s 24 (q .0) eg hg, date-is s 32 (q .1) eb hb)
+
+-- a value that is in the kind, whatever its data
+pub value-plain : (a : Format Data) (s : List ℕ) (v : Value) → Holds a s (λ d. v) (Valued.Is v)
+unfolding Where
+value-plain a s v d x = refl
+
+pub value-by : (k j : Kind) (id : ℕ) (s : List ℕ) (out : Valued) → k ≡ j → Holds (dataOf j) s (valueIn j id) out → Holds (dataOf k) s (valueIn k id) out
+value-by k j id s out e o = rw e o
 
 -- ---- lone data, as the code judges them
 
-pub value-by : (k v : Kind) (id : ℕ) (s : List ℕ) {out : Value} → k ≡ v → out ≡ valueAt v id s → out ≡ valueAt k id s
-value-by k v id s e o = rw e o
+module _ (k : Kind) (id : ℕ) (s : List ℕ) {r : Read} {x : Valued} {q : ℕ} where
+  pub value-no : {c : Fault} → r ≡ seen none (dataOf k) s 0 → r ≡ No c q → x ≡ givenBy r → x ≡ fromKind k id s
+  unfolding fromKind seen whole
+  value-no {c} e h o =
+      let i = told-no 0 none (dataOf k .read s) e h in
+      let z : q ≡ i .o = omega (arith, i .ends) in
+      o ∙ ap givenBy h ∙ ap (Valued.Given c) z ∙ ap (λ (a : Answer Data). fromData k id (whole (length s) a)) (sym (i .is))
 
-module _ (k : Kind) (id : ℕ) (s : List ℕ) where
-  -- what it makes of a reading of the data
-  finished : Read → Valued
-  finished (Got v q) = pick (eqb q (length s)) (Valued.Is (valueAt k id s)) (Valued.Given Fault.Over q)
-  finished (No c q) = Valued.Given c q
+  module _ {v : ℕ} where
+    pub value-over : r ≡ seen none (dataOf k) s 0 → r ≡ Got v q → (q ≡ length s → ⊥) → x ≡ Valued.Given Fault.Over q → x ≡ fromKind k id s
+    unfolding fromKind seen whole pick
+    value-over e h w o =
+        let i = told-got 0 none (dataOf k .read s) e h in
+        let z : i .n ≡ q = omega (arith, i .ends) in
+        o ∙ rw (i .is, z, ne-eqb q (length s) w)
 
-  data-is : {r : Read} → Bytes s → r ≡ seen none (dataOf k) s 0 → fromKind k id s ≡ finished r
-  unfolding fromKind seen whole told pick finished
-  data-is {r} bs e = go (dataOf k .read s) refl ∙ sym (ap finished e)
-    where
-      ends : (t : Bool) (d : Data) (m : ℕ) → Held (dataOf k) s 0 d → fromData k id (pick t (got d m) (refused Fault.Over m)) ≡ pick t (Valued.Is (valueAt k id s)) (Valued.Given Fault.Over m)
-      ends true d m h = ap Valued.Is (sym (value-stands k id s h))
-      ends false d m h = refl
+    pub value-is : ((i : ℕ) → Fits w8 (getD s i 0)) → r ≡ seen none (dataOf k) s 0 → r ≡ Got v q → q ≡ length s → Holds (dataOf k) s (valueIn k id) x → x ≡ fromKind k id s
+    unfolding fromKind seen whole pick Where
+    value-is bs e h w o =
+        let i = told-got 0 none (dataOf k .read s) e h in
+        let z : i .n ≡ length s = omega (arith, i .ends) in
+        rw (i .is, eq-eqb (i .n) (length s) z) (o (i .x) (held-read (dataOf k) s 0 (bytes-all s bs) (i .is)))
 
-      go : (a : Answer Data) → dataOf k .read s ≡ a → fromData k id (whole (length s) a) ≡ finished (told 0 none a)
-      go (got d m) h = rw zero-add (ends (eqb m (length s)) d m (held-read (dataOf k) s 0 bs h))
-      go (refused c q) h = rw zero-add
+-- what is answered, and what that says
+abbrev pub Valuing : ℕ → ℕ → List ℕ → Valued → Type 0
+Valuing edition id s out = (out ≡ valueOf edition id s) × (valueSays out ≡ valueAnswer edition id s)
 
-  module _ {r : Read} {q : ℕ} (bs : (i : ℕ) → Fits w8 (getD s i 0)) (e : r ≡ seen none (dataOf k) s 0) where
-    pub value-no : {c : Fault} → r ≡ No c q → Valued.Given c q ≡ fromKind k id s
-    unfolding finished
-    value-no h = sym (data-is (bytes-all s bs) e ∙ ap finished h)
-
-    pub value-over : {v : ℕ} → r ≡ Got v q → (q ≡ length s → ⊥) → Valued.Given Fault.Over q ≡ fromKind k id s
-    unfolding finished pick
-    value-over h w = sym (data-is (bytes-all s bs) e ∙ ap finished h ∙ rw (ne-eqb q (length s) w))
-
-    pub value-is : {v : ℕ} {x : Value} → r ≡ Got v q → q ≡ length s → x ≡ valueAt k id s → Valued.Is x ≡ fromKind k id s
-    unfolding finished pick
-    value-is h w o = sym (data-is (bytes-all s bs) e ∙ ap finished h ∙ rw (eq-eqb q (length s) w, o))
+valuing : (edition id : ℕ) (s : List ℕ) {out : Valued} → out ≡ valueOf edition id s → Valuing edition id s out
+valuing edition id s o = (o, ap valueSays o)
 
 module _ (edition id : ℕ) (s : List ℕ) {e : Edition} where
-  pub value-none : e ≡ editionOf edition → e ≡ Edition.Unknown → Valued.No Fault.Edition 0 ≡ valueOf edition id s
+  pub value-none : e ≡ editionOf edition → e ≡ Edition.Unknown → Valuing edition id s (Valued.No Fault.Edition 0)
   unfolding valueOf
-  value-none f h = rw (← f, h)
+  value-none f h = valuing edition id s (rw (← f, h))
 
   module _ {p : Product} {r : Row} where
-    pub value-off : {c : Fault} {q : ℕ} → e ≡ editionOf edition → e ≡ Edition.Of p → r ≡ rowOf p id → r ≡ Row.No c q → Valued.Given c q ≡ valueOf edition id s
+    pub value-off : {c : Fault} {q : ℕ} {out : Valued} → e ≡ editionOf edition → e ≡ Edition.Of p → r ≡ rowOf p id → r ≡ Row.No c q
+        → out ≡ offBy r → Valuing edition id s out
     unfolding valueOf
-    value-off f h g w = rw (← f, h, ← g, w)
+    value-off f h g w o = valuing edition id s (o ∙ ap offBy w ∙ rw (← f, h, ← g, w))
 
     pub value-of : {k : Kind} {out : Valued} → e ≡ editionOf edition → e ≡ Edition.Of p → r ≡ rowOf p id → r ≡ Row.Is k
-        → out ≡ fromKind k id s → out ≡ valueOf edition id s
+        → out ≡ fromKind k id s → Valuing edition id s out
     unfolding valueOf
-    value-of f h g w o = rw (← f, h, ← g, w) o
+    value-of f h g w o = valuing edition id s (rw (← f, h, ← g, w) o)

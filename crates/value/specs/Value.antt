@@ -1,12 +1,13 @@
 -- The value of an element's data: document 01, "The deck" and "Numbers a refusal gives".
 use Prim.Native.Nat.{ℕ}
-use mathlib.Core.List.{List}
+use mathlib.Core.List.{List, [], _∷_}
 use lib.ListN.{length}
-use lib.Ieee.{binary64, ofBits}
+use lib.Ieee.{binary64, ofBits, toBits}
 use Rattle.format.specs.declared.Fault.{Fault}
 use Rattle.format.specs.declared.Fault.the-variants as Fault
-use Rattle.format.specs.declared.Outcome.{Outcome}
 use Rattle.format.specs.declared.Outcome.the-variants as Outcome
+use Rattle.format.specs.Fault.{Said}
+use Rattle.format.specs.ReadWrite.{bit}
 use Rattle.format.specs.Format.{Answer, got, refused, whole}
 use Rattle.kind.specs.declared.Edition.{Edition}
 use Rattle.kind.specs.declared.Edition.the-variants as Edition
@@ -57,8 +58,20 @@ fromEdition Edition.Unknown id s = No Fault.Edition 0
 unfoldable pub valueOf : ℕ → ℕ → List ℕ → Valued
 valueOf edition id s = fromEdition (editionOf edition) id s
 
--- the answer as document 01 has it
-abbrev pub valueSays : Valued → Outcome
-valueSays (Is v) = Outcome.Done 0
-valueSays (No c q) = Outcome.No c q
-valueSays (Given c q) = Outcome.Given c q
+-- ---- the answer as document 01 has it
+
+-- a value by its case, from 0 in the order of that list, and what it holds, a flag by 0 or 1 and a date by its bits
+abbrev pub valueCase : Value → List ℕ
+valueCase Value.Marker = 0 ∷ []
+valueCase (Value.Simple id) = 1 ∷ id ∷ []
+valueCase (Value.Size a b) = 2 ∷ a ∷ b ∷ []
+valueCase (Value.Dates v) = 3 ∷ bit (v .starts) ∷ bit (v .ends) ∷ toBits binary64 (v .after) ∷ toBits binary64 (v .before) ∷ []
+valueCase (Value.Words n) = 4 ∷ n ∷ []
+
+abbrev pub valueSays : Valued → Said
+valueSays (Is v) = (Outcome.Done 0, valueCase v)
+valueSays (No c q) = (Outcome.No c q, [])
+valueSays (Given c q) = (Outcome.Given c q, [])
+
+abbrev pub valueAnswer : ℕ → ℕ → List ℕ → Said
+valueAnswer edition id s = valueSays (valueOf edition id s)

@@ -5,12 +5,11 @@ use kind::Edition;
 use kind::Kind;
 use kind::Row;
 ghost use mathlib.Core.Path.{_≡_};
-ghost use lib.Ieee.{binary64, ofBits};
-ghost use Rattle.format.specs.Combinators.{number};
-ghost use Rattle.format.specs.Seen.{seen, itself};
-ghost use Rattle.date.specs.Date.{date};
-ghost use Rattle.value.specs.Value.{valueOf, fromKind};
-ghost use Rattle.value.specs.Places.{valueOr0, spanAt, valueAt};
+ghost use lib.ListN.{length};
+ghost use Rattle.element.specs.Data.{wordData, sizeData, dateData, dataOf, wordsOf, sizesOf, spanOf};
+ghost use Rattle.value.specs.declared.Value.the-variants.{Size, Dates, Words};
+ghost use Rattle.value.specs.Value.{floats, valueIn, fromKind, valueOf, valueSays, valueAnswer};
+ghost use Rattle.value.specs.Places.{Holds, givenBy, offBy};
 
 // A date span: whether the after date counts and whether the before date does, and the two dates.
 pub struct Span {
@@ -35,49 +34,78 @@ pub enum Valued {
     Given(Fault, usize),
 }
 
-// The number of 4 bytes at a place, or 0 where there is none.
-fn number_in(s: &[u8], at: usize) -> u32
-    ensures { λ r. ⌜ r ≡ valueOr0 (seen itself (number 4) (now (s .entry)) at) ⌝ }
+// The fault of a refused reading; of another, that bytes are left over behind it.
+fn given(r: Read) -> Valued
+    ensures { λ x. ⌜ x ≡ givenBy r ⌝ }
 {
-    let r = wire::u32_at(s, at);
-    let Read::Got(n, _) = r else {
-        return 0;
-    };
-    n as u32
-}
-
-// The date at a place, or 0 where there is none.
-fn date_in(s: &[u8], at: usize) -> f64
-    ensures { λ r. ⌜ r ≡ ofBits binary64 (valueOr0 (seen itself date (now (s .entry)) at)) ⌝ }
-{
-    let r = date::date_at(s, at);
-    let Read::Got(bits, _) = r else {
-        return 0.0;
-    };
-    f64::from_bits(bits)
-}
-
-fn span_in(s: &[u8]) -> Span
-    ensures { λ r. ⌜ r ≡ spanAt (now (s .entry)) ⌝ }
-{
-    Span {
-        starts: number_in(s, 8) == 1,
-        ends: number_in(s, 24) == 1,
-        after: date_in(s, 16),
-        before: date_in(s, 32),
+    match r {
+        Read::Got(_, e) => Valued::Given(Fault::Over, e),
+        Read::No(c, p) => Valued::Given(c, p),
     }
 }
 
-// The value in sound data, whose fields stand at fixed places.
-fn value_in(kind: Kind, identifier: u32, s: &[u8]) -> Value
-    ensures { λ r. ⌜ r ≡ valueAt kind identifier (now (s .entry)) ⌝ }
+// What follows reads sound data, whose fields stand at fixed places.
+
+fn words_in(s: &[u8]) -> Valued
+    ensures { λ r. ⌜ Holds wordData (now (s .entry)) (λ d. Words (length (wordsOf d))) r ⌝ }
+{
+    let r = wire::u32_at(s, 0);
+    let Read::Got(n, _) = r else {
+        return given(r);
+    };
+    Valued::Is(Value::Words(n as u32))
+}
+
+fn sizes_in(s: &[u8]) -> Valued
+    ensures { λ r. ⌜ Holds sizeData (now (s .entry)) (λ d. Size (sizesOf d .0) (sizesOf d .1)) r ⌝ }
+{
+    let a = wire::u32_at(s, 8);
+    let Read::Got(minimum, _) = a else {
+        return given(a);
+    };
+    let b = wire::u32_at(s, 12);
+    let Read::Got(maximum, _) = b else {
+        return given(b);
+    };
+    Valued::Is(Value::Size(minimum as u32, maximum as u32))
+}
+
+fn span_in(s: &[u8]) -> Valued
+    ensures { λ r. ⌜ Holds dateData (now (s .entry)) (λ d. Dates (floats (spanOf d))) r ⌝ }
+{
+    let f = field::flag_at(s, 8);
+    let Read::Got(starts, _) = f else {
+        return given(f);
+    };
+    let a = date::date_at(s, 16);
+    let Read::Got(after, _) = a else {
+        return given(a);
+    };
+    let g = field::flag_at(s, 24);
+    let Read::Got(ends, _) = g else {
+        return given(g);
+    };
+    let b = date::date_at(s, 32);
+    let Read::Got(before, _) = b else {
+        return given(b);
+    };
+    Valued::Is(Value::Dates(Span {
+        starts: starts == 1,
+        ends: ends == 1,
+        after: f64::from_bits(after),
+        before: f64::from_bits(before),
+    }))
+}
+
+fn value_in(kind: Kind, identifier: u32, s: &[u8]) -> Valued
+    ensures { λ r. ⌜ Holds (dataOf kind) (now (s .entry)) (valueIn kind identifier) r ⌝ }
 {
     match kind {
-        Kind::Marker => Value::Marker,
-        Kind::Simple(_) => Value::Simple(identifier),
-        Kind::WordList => Value::Words(number_in(s, 0)),
-        Kind::Size(_) => Value::Size(number_in(s, 8), number_in(s, 12)),
-        Kind::Dates(_) => Value::Dates(span_in(s)),
+        Kind::Marker => Valued::Is(Value::Marker),
+        Kind::Simple(_) => Valued::Is(Value::Simple(identifier)),
+        Kind::WordList => words_in(s),
+        Kind::Size(_) => sizes_in(s),
+        Kind::Dates(_) => span_in(s),
     }
 }
 
@@ -86,28 +114,36 @@ fn value_as(kind: Kind, identifier: u32, s: &[u8]) -> Valued
     ensures { λ r. ⌜ r ≡ fromKind kind identifier (now (s .entry)) ⌝ }
 {
     let r = element::data_at(s, 0, kind);
-    match r {
-        Read::Got(_, e) => {
-            if e != s.len() {
-                return Valued::Given(Fault::Over, e);
-            }
-            Valued::Is(value_in(kind, identifier, s))
-        }
-        Read::No(c, p) => Valued::Given(c, p),
+    let Read::Got(_, e) = r else {
+        return given(r);
+    };
+    if e != s.len() {
+        return given(r);
+    }
+    value_in(kind, identifier, s)
+}
+
+// The fault of an identifier without a row.
+fn off(row: Row) -> Valued
+    ensures { λ x. ⌜ x ≡ offBy row ⌝ }
+{
+    match row {
+        Row::Is(_) => Valued::Given(Fault::Unknown, 0),
+        Row::No(c, p) => Valued::Given(c, p),
     }
 }
 
 // Lone data of an identifier in an edition.
 pub fn value_of(edition: u64, identifier: u32, s: &[u8]) -> Valued
-    ensures { λ r. ⌜ r ≡ valueOf edition identifier (now (s .entry)) ⌝ }
+    ensures { λ r. ⌜ (r ≡ valueOf edition identifier (now (s .entry))) × (valueSays r ≡ valueAnswer edition identifier (now (s .entry))) ⌝ }
 {
     let e = kind::edition_of(edition);
     let Edition::Of(product) = e else {
         return Valued::No(Fault::Edition, 0);
     };
     let row = row::row_for(product, identifier as u64);
-    match row {
-        Row::Is(kind) => value_as(kind, identifier, s),
-        Row::No(c, p) => Valued::Given(c, p),
-    }
+    let Row::Is(kind) = row else {
+        return off(row);
+    };
+    value_as(kind, identifier, s)
 }

@@ -13,6 +13,7 @@ use Rattle.format.specs.declared.Read.{Read}
 use Rattle.format.specs.declared.Read.the-variants as Read
 use Rattle.format.specs.Format.{pick}
 use Rattle.format.specs.ReadWrite.{bit}
+use Rattle.format.specs.Laws.ReadWrite.{eqb-bit}
 use Rattle.format.specs.Combinators.{number}
 use Rattle.format.specs.Seen.{seen, itself}
 use Rattle.format.specs.Back.{Where, back-got, stands-room}
@@ -48,11 +49,6 @@ Number s at r = Where (number 4) s at itself r
 pub number-read : (s : List ℕ) (at : ℕ) {r : Read} {v q : ℕ} → r ≡ seen itself (number 4) s at → r ≡ Read.Got v q → Number s at (v % 0x1_0000_0000)
 unfolding Where number
 number-read s at e h x b = let y = back-got itself (number 4) s at (b .1) e h .0 in rw y (mod-eq-of-lt (b .1 .fit))
-
-eqb-bit : (b : Bool) → eqb (bit b) 1 ≡ b
-unfolding bit pick
-eqb-bit true = refl
-eqb-bit false = refl
 
 -- e is where the name ends
 module _ (s : List ℕ) (k at : ℕ) {e : ℕ} where

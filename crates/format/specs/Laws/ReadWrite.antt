@@ -183,6 +183,11 @@ bit-eqb n h = go (eqb n 1) refl
     go true e = sym (eqb-true n 1 e)
     go false e = omega (arith, eqb-false n 1 e)
 
+pub eqb-bit : (b : Bool) → eqb (bit b) 1 ≡ b
+unfolding bit pick
+eqb-bit true = refl
+eqb-bit false = refl
+
 -- ---- the number that one byte spells; that j bytes and then k bytes spell
 pub value-one : (s : List ℕ) (at : ℕ) → at < length s → value (take 1 (drop at s)) ≡ getD s at 0
 unfolding value
@@ -204,6 +209,10 @@ value-join j k s at {x} {y} ex ey h =
     rw (take-add j k (drop at s), value-append, l, ← ex, ← d)
 
 -- a count within its range
+pub within-fits : (low high n : ℕ) → low ≤ n → n ≤ high → within low high n ≡ true
+unfolding within
+within-fits low high n f g = rw (le-leb low n f, le-leb n high g)
+
 pub within-is : (low high n : ℕ) → within low high n ≡ true → (low ≤ n) × (n ≤ high)
 unfolding within
 within-is low high n e = go (leb low n) refl e

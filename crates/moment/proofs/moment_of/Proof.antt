@@ -1,4 +1,5 @@
-use mathlib.Core.Path.{refl, sym, _∙_}
+use mathlib.Core.Path.{sym, _∙_}
+use Rattle.moment.specs.Moment.{says-at, says-no}
 use borrow.Author.Needs.{needs}
 use Rattle.moment.proofs.moment_of.Statement.{statement}
 use Rattle.moment.proofs.moment_of.Tie as tie
@@ -13,15 +14,10 @@ returns : tie.Need-returns
 returns c =
     let d = c .before .before .before in
     let r = c .before .civil-of .ensures in
-    record {
-      accepts = sym (d .before .is-date .ensures) ∙ d .if1 .taken;
-      valid = r .0;
-      on = r .1 ∙ c .before .before .day-in .ensures;
-      at = c .second-in .ensures;
-    }
+    says-at _ _ _ (sym (d .before .is-date .ensures) ∙ d .if1 .taken) (r .0, r .1 ∙ c .before .before .day-in .ensures) (c .second-in .ensures)
 
 returns-2 : tie.Need-returns-2
-returns-2 c = record { not-accepted = sym (c .before .is-date .ensures) ∙ c .if1 .left; why = refl; start = refl }
+returns-2 c = says-no _ (sym (c .before .is-date .ensures) ∙ c .if1 .left)
 
 pub moment-of-spec : {M : Type 1} → statement M
 moment-of-spec =
