@@ -6,7 +6,7 @@ use mathlib.Core.Path.{_≡_, refl, sym, ap}
 use mathlib.Core.List.{List, [], _∷_, _++_, append-assoc}
 use lib.ListN.{length, take, drop, length-append}
 use lib.Seq.{drop-append-seam}
-use Rattle.format.specs.Format.{Answer, got, shift, mapped, andThen, endOf, Bytes, bytes-drop, Found, Format, went, mapped-got, end-mapped, end-then}
+use Rattle.format.specs.Format.{Answer, got, shift, mapped, andThen, endOf, Bytes, bytes-drop, bytes-append, Found, Format, went, mapped-got, end-mapped, end-then}
 use Rattle.format.specs.Join.{joined, pair, via}
 
 -- k values from place i on: the one at place i by the format a i
@@ -25,6 +25,11 @@ module _ {A : Type 0} (a : ℕ → Format A) where
 
   abbrev pub EachFit : ℕ → ℕ → List A → Type 0
   EachFit i k xs = (length xs ≡ k) × AllFit i xs
+
+  pub bytes-each : (i : ℕ) (xs : List A) → ((j : ℕ) (x : A) → Bytes (a j .write x)) → Bytes (eachWrite i xs)
+  unfolding eachWrite Bytes
+  bytes-each i [] f = tt
+  bytes-each i (x ∷ xs) f = bytes-append (a i .write x) (eachWrite (i + 1) xs) (f i x) (bytes-each (i + 1) xs f)
 
   pub each-back : (i k : ℕ) (xs : List A) (t : List ℕ) → EachFit i k xs → eachRead i k (eachWrite i xs ++ t) ≡ got xs (length (eachWrite i xs))
   unfolding eachRead eachWrite AllFit andThen mapped shift

@@ -28,6 +28,11 @@ unfolding spelt
 length-spelt zero n = refl
 length-spelt (suc k) n = ap suc (length-spelt k (n / 256))
 
+pub bytes-spelt : (k n : ℕ) → Bytes (spelt k n)
+unfolding spelt Bytes
+bytes-spelt zero n = tt
+bytes-spelt (suc k) n = (omega arith, bytes-spelt k (n / 256))
+
 pub value-spelt : (k n : ℕ) → n < 256 ^ k → value (spelt k n) ≡ n
 unfolding value spelt
 value-spelt zero n h = omega arith
