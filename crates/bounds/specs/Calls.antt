@@ -25,6 +25,7 @@ use Rattle.deck.specs.declared.Scan.{Scan}
 use Rattle.deck.specs.declared.Scan.the-variants as Scan
 use Rattle.deck.specs.Deck.{readAs, readBy, readDeck, answered, scanned}
 use Rattle.plan.specs.Edit.{Edit, switch, rename, remove, insert, addRule, addElement, addWord, Plan, become, refuse, refuseGiven, planned, says}
+use Rattle.plan.specs.Handed.{Handed}
 use Rattle.plan.specs.Found.{Edits}
 use Rattle.tables.specs.Tables.{ruleWidth, elementWidth, inTables, tabled, readSays}
 use Rattle.view.specs.declared.View.{View}
@@ -36,7 +37,6 @@ use Rattle.view.specs.View.{nameAt, nameView, viewSays}
 use Rattle.view.specs.Word.{wordAt, elementWord, ruleWord, wordView}
 use Rattle.view.specs.Fixed.{fixedAt, fixedFields, fieldsSay}
 use Rattle.bounds.specs.Refused.{Only, NotLarge, Own, Judges, OfGiven, only-planned}
-use Rattle.bounds.specs.Places.{Lent}
 use Rattle.bounds.specs.Listed.{Numbers, allowed, Lists, allowed-first, allowed-later, numbers, exactly}
 use Rattle.bounds.specs.Faulty.{deck-faulty, edition-listed, faulty-listed, elementNumbers, element-listed}
 
@@ -181,8 +181,8 @@ judges-listed (addWord word) = ((refl, refl), ((refl, refl), (refl, refl)))
 own-allowed : (e : Edit) (n q : ℕ) → allowed (ownNumbers e) n q ≡ true → allowed (editNumbers e) n q ≡ true
 own-allowed e n q f = allowed-later (numbers 1 13 60000) (laterNumbers e) n q (allowed-later (exactly 15 0) (numbers 18 20 0 ∷ ownNumbers e) n q (allowed-later (numbers 18 20 0) (ownNumbers e) n q f))
 
-given-listed : (p : Product) (e : Edit) → Lent e → OfGiven (GivenListed e) p e
-unfolding Lent
+given-listed : (p : Product) (e : Edit) → Handed e → OfGiven (GivenListed e) p e
+unfolding Handed
 given-listed p (switch k on) h = tt
 given-listed p (rename k name) h = tt
 given-listed p (remove k) h = tt
@@ -190,11 +190,11 @@ given-listed p (insert k second j) h = λ c q e.
     let f = deck-faulty p second c q e in
     let w = within-is 2 13 (numberOf c) (f .0) in
     (own-allowed (insert k second j) (numberOf c + 32) q (allowed-first 34 45 60000 (numbers 16 16 1 ∷ []) (numberOf c + 32) q (omega arith) (omega arith) (f .1 .0)), f .1 .1)
-given-listed p (addRule name g id s) h = λ c q e. let f = element-listed p id s h c q e in (own-allowed (addRule name g id s) (numberOf c + 32) q (allowed-later (exactly 17 0) elementNumbers (numberOf c + 32) q (f .0)), f .1)
-given-listed p (addElement id s) h = λ c q e. let f = element-listed p id s h c q e in (own-allowed (addElement id s) (numberOf c + 32) q (allowed-later (numbers 21 22 0) elementNumbers (numberOf c + 32) q (f .0)), f .1)
+given-listed p (addRule name g id s) h = λ c q e. let f = element-listed p id s (h .1 .1 .1) c q e in (own-allowed (addRule name g id s) (numberOf c + 32) q (allowed-later (exactly 17 0) elementNumbers (numberOf c + 32) q (f .0)), f .1)
+given-listed p (addElement id s) h = λ c q e. let f = element-listed p id s (h .1) c q e in (own-allowed (addElement id s) (numberOf c + 32) q (allowed-later (numbers 21 22 0) elementNumbers (numberOf c + 32) q (f .0)), f .1)
 given-listed p (addWord word) h = tt
 
-pub edit-listed : (edition n : ℕ) (e : Edit) (d : List ℕ) {r : Outcome} {x : List ℕ} → Lent e → Edits edition n e d r x → Lists (editNumbers e) r
+pub edit-listed : (edition n : ℕ) (e : Edit) (d : List ℕ) {r : Outcome} {x : List ℕ} → Handed e → Edits edition n e d r x → Lists (editNumbers e) r
 unfolding says
 edit-listed edition n e d h f =
     rw (f .0) (go (planned edition n d e) (only-planned (OwnListed e) (GivenListed e) (own-listed e) edition n d e (judges-listed e) (λ p i. ((λ c q z. faulty-listed (laterNumbers e) c q (deck-faulty p (take n d) c q z)), given-listed p e h))))

@@ -23,6 +23,7 @@ use Rattle.rule.specs.Rule.{Rule, elementsIn}
 use Rattle.deck.specs.Deck.{readAs, readBy, readDeck, answered, place-small, read-writes-back}
 use Rattle.plan.specs.Given.{given}
 use Rattle.plan.specs.Edit.{Edit, switch, rename, remove, insert, addRule, addElement, addWord, Plan, become, refuse, refuseGiven, planned, says}
+use Rattle.plan.specs.Handed.{Handed}
 use Rattle.tables.specs.Tables.{ruleWidth, elementWidth, inTables, tabled, readSays}
 use Rattle.view.specs.declared.View.{View}
 use Rattle.view.specs.declared.View.the-variants.{At, No}
@@ -31,16 +32,6 @@ use Rattle.view.specs.View.{Inside, nameAt, nameView, viewSays}
 use Rattle.view.specs.Word.{wordAt, elementWord, ruleWord, wordView}
 use Rattle.bounds.specs.Data.{most, given-end}
 use Rattle.bounds.specs.Refused.{Only, NotLarge, Own, Judges, RefusedAs, OfGiven, only-planned}
-
--- what is lent to an edit beside its buffer, and is read, is bytes
-unfoldable pub Lent : Edit → Type 0
-Lent (switch k on) = Unit {0}
-Lent (rename k name) = Unit {0}
-Lent (remove k) = Unit {0}
-Lent (insert k second j) = Bytes second
-Lent (addRule name f id s) = Bytes s
-Lent (addElement id s) = Bytes s
-Lent (addWord word) = Unit {0}
 
 -- a reading in an edition
 read-small : (edition : ℕ) (p : Product) (s : List ℕ) → editionOf edition ≡ Edition.Of p → Bytes s → placeOf (answered (readAs p s)) ≤ 60000
@@ -67,17 +58,17 @@ module _ (edition : ℕ) (p : Product) (ed : editionOf edition ≡ Edition.Of p)
   unfolding endOf
   element-small id s b c q e = let w : q ≤ most = rw e at (given-end p id s b) in omega arith
 
-  given-small : (e : Edit) → Lent e → OfGiven Small p e
-  unfolding Lent
+  given-small : (e : Edit) → Handed e → OfGiven Small p e
+  unfolding Handed
   given-small (switch k on) h = tt
   given-small (rename k name) h = tt
   given-small (remove k) h = tt
   given-small (insert k second j) h = λ c q e. rw e at (read-small edition p second ed h)
-  given-small (addRule name f id s) h = element-small id s h
-  given-small (addElement id s) h = element-small id s h
+  given-small (addRule name f id s) h = element-small id s (h .1 .1 .1)
+  given-small (addElement id s) h = element-small id s (h .1)
   given-small (addWord word) h = tt
 
-pub plan-small : (edition n : ℕ) (d : List ℕ) (e : Edit) → Bytes d → Lent e → placeOf (says (planned edition n d e)) ≤ 60000
+pub plan-small : (edition n : ℕ) (d : List ℕ) (e : Edit) → Bytes d → Handed e → placeOf (says (planned edition n d e)) ≤ 60000
 unfolding says
 plan-small edition n d e b h = go (planned edition n d e) (only-planned Small Small small-own edition n d e (small-judges e) (λ p f. ((λ c q z. rw z at (read-small edition p (take n d) f (bytes-take n d b))), given-small edition p f e h)))
   where
