@@ -18,16 +18,17 @@ use Rattle.kind.specs.Kinds.{editionOf}
 use Rattle.rule.specs.Rule.{Rule}
 use Rattle.deck.specs.Deck.{readAs}
 use Rattle.plan.specs.Edit.{Edit, planned, says}
+use Rattle.plan.specs.Found.{Edits}
 use Rattle.start.specs.Start.{startSays, startLeaves}
-use Rattle.runs.specs.Run.{Buffer, Call, Promise, Ran, Steps, step, lengthFrom, Called, called, runRules}
+use Rattle.runs.specs.Run.{Buffer, Call, Promise, Ran, Steps, step, lengthFrom, edit-step, Called, called, runRules}
 use Rattle.runs.specs.Left.{Left, at-accepted, at-start, calls, runIn, left-by, left-in}
 use Rattle.rule_deck.specs.Sent.{Sends, lengthSent}
 
--- ---- whatever an edit of the library promises is a step of a run
-pub edits-step : Steps Called lengthFrom
-edits-step = called
+-- ---- whatever an edit of the library promises is a step of a run: the buffer that it leaves, and the length that it answers or, refused, the old one
+pub edits-step : (edition n : ℕ) (e : Edit) (d : List ℕ) (r : Outcome) (d′ : List ℕ) → Edits edition n e d r d′ → (d′, lengthFrom n r) ≡ step (edition, e) (d, n)
+edits-step = edit-step
 
--- and so is whatever a call for C promises: "one 64-bit number, code plus 256 times place"
+-- so is whatever a call for C promises, "one 64-bit number, code plus 256 times place", and what it was handed is what the theorem asks for
 length-sent : (n : ℕ) (o : Outcome) → lengthSent n (packed o) ≡ lengthFrom n o
 unfolding pick
 length-sent n o = rw (packed-code o, packed-place o) (go o)
@@ -41,9 +42,9 @@ pub sends-step : Steps Sends lengthSent
 unfolding step
 sends-step edition n e d r d′ f = (f .0, ap₂ (λ (x : List ℕ) (m : ℕ). (x, m)) (f .1 .1) (ap (lengthSent n) (f .1 .0) ∙ length-sent n (says (planned edition n d e))))
 
--- ---- a run of either: b is the buffer d, with the length of its deck, after it
+-- ---- b is the buffer d, with the length of its deck, after a run of such calls
 module _ {A : Type 0} {P : Promise A} {next : ℕ → A → ℕ} (is : Steps P next) (d : List ℕ) {b : Buffer} where
-  -- each call in an edition of its own
+  -- each call in an edition of its own; Studio takes what either takes, and reads it back
   pub after-any-run : (p : Product) (n m : ℕ) (rs : List Rule) (cs : List Call) → Bytes d → n ≤ length d → readAs p (take n d) ≡ got rs m
       → Ran P next cs (d, n) b → Left Studio d (runRules (length d) cs (rs, n)) b
   after-any-run p n m rs cs bs l r h = left-by is cs (at-accepted p d n m rs bs l r) h
@@ -59,3 +60,12 @@ module _ {A : Type 0} {P : Promise A} {next : ℕ → A → ℕ} (is : Steps P n
 
     pub start-in-one-edition : codeOf (startSays (length d)) ≡ 0 → Ran P next (calls edition es) (startLeaves d, placeOf (startSays (length d))) b → Left p d (runIn p (length d) es ([], 7)) b
     start-in-one-edition e h = left-in is edition es ed (at-start p d e) h
+
+-- ---- which is so of the library's edits, and of the calls for C
+pub after-any-edits : (d : List ℕ) {b : Buffer} (p : Product) (n m : ℕ) (rs : List Rule) (cs : List Call) → Bytes d → n ≤ length d → readAs p (take n d) ≡ got rs m
+    → Ran Called lengthFrom cs (d, n) b → Left Studio d (runRules (length d) cs (rs, n)) b
+after-any-edits d = after-any-run called d
+
+pub after-any-sends : (d : List ℕ) {b : Buffer} (p : Product) (n m : ℕ) (rs : List Rule) (cs : List Call) → Bytes d → n ≤ length d → readAs p (take n d) ≡ got rs m
+    → Ran Sends lengthSent cs (d, n) b → Left Studio d (runRules (length d) cs (rs, n)) b
+after-any-sends d = after-any-run sends-step d

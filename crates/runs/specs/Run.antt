@@ -71,13 +71,17 @@ module _ {A : Type 0} (P : Promise A) (next : ℕ → A → ℕ) where
       let w = ran-is f cs (h .1 .0, next (b .1) (h .0)) b′ (h .1 .1 .1) in
       ((s .0, w .0), w .1 ∙ ap (run cs) (s .1))
 
+-- whatever the promise of an edit allows is a step
+pub edit-step : (edition n : ℕ) (e : Edit) (d : List ℕ) (r : Outcome) (d′ : List ℕ) → Edits edition n e d r d′ → (d′, lengthFrom n r) ≡ step (edition, e) (d, n)
+unfolding step
+edit-step edition n e d r d′ f = ap₂ (λ (x : List ℕ) (o : Outcome). (x, lengthFrom n o)) (f .1) (f .0)
+
 -- the library's edits
 abbrev pub Called : Promise Outcome
 Called edition n e d r d′ = Handed e × Edits edition n e d r d′
 
 pub called : Steps Called lengthFrom
-unfolding step
-called edition n e d r d′ f = (f .0, ap₂ (λ (x : List ℕ) (o : Outcome). (x, lengthFrom n o)) (f .1 .1) (f .1 .0))
+called edition n e d r d′ f = (f .0, edit-step edition n e d r d′ (f .1))
 
 -- ---- the same of a list of rules and the longest deck length so far: no byte is moved
 abbrev pub Rules : Type 0
