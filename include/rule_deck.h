@@ -70,39 +70,39 @@ uint64_t rule_deck_name(uint64_t edition, const uint8_t *deck, size_t deck_len, 
 /* Word w of element e of rule k. Done: the first byte of its units in the deck. */
 uint64_t rule_deck_word(uint64_t edition, const uint8_t *deck, size_t deck_len, uint64_t k, uint64_t e, uint64_t w);
 
-/* ---- building and editing: the deck is the first `length` bytes of the buffer. Done: its new length. Where it
+/* ---- building and editing: the deck is the first `stated` bytes of the buffer. Done: its new length. Where it
  * shrank, the bytes from the new length to the old are 0; those beyond the larger of the two stay. */
 
 /* Starts an empty deck in the first 7 bytes. Done: 7. */
 uint64_t rule_deck_start(uint8_t *buf, size_t buf_len);
 
 /* Switches rule k on or off. */
-uint64_t rule_deck_switch(uint64_t edition, uint8_t *buf, size_t buf_len, uint64_t length, uint64_t k, bool on);
+uint64_t rule_deck_switch(uint64_t edition, uint8_t *buf, size_t buf_len, uint64_t stated, uint64_t k, bool on);
 
 /* Renames rule k; the name is the bytes of its 16-bit units. */
-uint64_t rule_deck_rename(uint64_t edition, uint8_t *buf, size_t buf_len, uint64_t length, uint64_t k,
+uint64_t rule_deck_rename(uint64_t edition, uint8_t *buf, size_t buf_len, uint64_t stated, uint64_t k,
                           const uint8_t *name, size_t name_len);
 
 /* Removes rule k. */
-uint64_t rule_deck_remove(uint64_t edition, uint8_t *buf, size_t buf_len, uint64_t length, uint64_t k);
+uint64_t rule_deck_remove(uint64_t edition, uint8_t *buf, size_t buf_len, uint64_t stated, uint64_t k);
 
 /* Inserts at place k, 0 to the number of rules, a copy of rule j of a second deck. */
-uint64_t rule_deck_insert(uint64_t edition, uint8_t *buf, size_t buf_len, uint64_t length, uint64_t k,
+uint64_t rule_deck_insert(uint64_t edition, uint8_t *buf, size_t buf_len, uint64_t stated, uint64_t k,
                           const uint8_t *second, size_t second_len, uint64_t j);
 
 /* Adds a rule at the end, with its name, its fixed fields (the signature is with Unknown1) and its first element,
  * an identifier and its data. */
-uint64_t rule_deck_add_rule(uint64_t edition, uint8_t *buf, size_t buf_len, uint64_t length, const uint8_t *name,
+uint64_t rule_deck_add_rule(uint64_t edition, uint8_t *buf, size_t buf_len, uint64_t stated, const uint8_t *name,
                             size_t name_len, uint32_t signature, bool on, uint32_t unknown2, uint32_t unknown3,
                             uint32_t unknown4, uint32_t unknown5, uint32_t identifier, const uint8_t *data,
                             size_t data_len);
 
 /* Adds an element to the last rule. */
-uint64_t rule_deck_add_element(uint64_t edition, uint8_t *buf, size_t buf_len, uint64_t length, uint32_t identifier,
+uint64_t rule_deck_add_element(uint64_t edition, uint8_t *buf, size_t buf_len, uint64_t stated, uint32_t identifier,
                                const uint8_t *data, size_t data_len);
 
 /* Adds a word, the bytes of its 16-bit units, to the list that is the last element of the last rule. */
-uint64_t rule_deck_add_word(uint64_t edition, uint8_t *buf, size_t buf_len, uint64_t length, const uint8_t *word,
+uint64_t rule_deck_add_word(uint64_t edition, uint8_t *buf, size_t buf_len, uint64_t stated, const uint8_t *word,
                             size_t word_len);
 
 #ifdef __cplusplus

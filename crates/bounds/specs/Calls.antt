@@ -27,6 +27,7 @@ use Rattle.deck.specs.declared.Scan.the-variants as Scan
 use Rattle.deck.specs.Deck.{readAs, readBy, readDeck, answered, scanned}
 use Rattle.plan.specs.Edit.{Edit, switch, rename, remove, insert, addRule, addElement, addWord, Plan, become, refuse, refuseGiven, planned, says}
 use Rattle.plan.specs.Given.{given}
+use Rattle.plan.specs.Handed.{Handed}
 use Rattle.plan.specs.Found.{Edits}
 use Rattle.tables.specs.Tables.{ruleWidth, elementWidth, inTables, tabled, readSays}
 use Rattle.view.specs.declared.View.{View}
@@ -38,7 +39,7 @@ use Rattle.view.specs.View.{nameAt, nameView, viewSays}
 use Rattle.view.specs.Word.{wordAt, elementWord, ruleWord, wordView}
 use Rattle.view.specs.Fixed.{fixedAt, fixedFields, fieldsSay}
 use Rattle.bounds.specs.Refused.{Only, NotLarge, judges, owns, Each, Gift, nothing, aDeck, anElement, givenTo, refused-as, as-refused, OfGift, only-planned}
-use Rattle.bounds.specs.Places.{BytesOf, Lent}
+use Rattle.bounds.specs.Places.{BytesOf, given-bytes}
 use Rattle.bounds.specs.Listed.{Numbers, allowed, Lists, allowed-first, allowed-later, numbers, exactly}
 use Rattle.bounds.specs.Faulty.{Faulty, deck-faulty, edition-listed, faulty-listed, elementNumbers, ElementListed, element-listed}
 
@@ -198,10 +199,10 @@ given-listed p e (anElement id s) w h = refused-as (GivenListed e) (given p id s
     let f = as-refused ElementListed (element-listed p id s h) z in
     (w (numberOf c + 32) q (f .0), f .1))
 
-pub edit-listed : (edition n : ℕ) (e : Edit) (d : List ℕ) {r : Outcome} {x : List ℕ} → Lent e → Edits edition n e d r x → Lists (editNumbers e) r
-unfolding says Lent
+pub edit-listed : (edition n : ℕ) (e : Edit) (d : List ℕ) {r : Outcome} {x : List ℕ} → Handed e → Edits edition n e d r x → Lists (editNumbers e) r
+unfolding says
 edit-listed edition n e d h f =
-    rw (f .0) (go (planned edition n d e) (only-planned (OwnListed e) (GivenListed e) edition n d e (owns-listed e) (λ p i. (refused-as (OwnListed e) (readAs p (take n d)) (λ c q z. faulty-listed (laterNumbers e) c q (as-refused Faulty (deck-faulty p (take n d)) z)), given-listed p e (givenTo e) (gift-allowed e) h))))
+    rw (f .0) (go (planned edition n d e) (only-planned (OwnListed e) (GivenListed e) edition n d e (owns-listed e) (λ p i. (refused-as (OwnListed e) (readAs p (take n d)) (λ c q z. faulty-listed (laterNumbers e) c q (as-refused Faulty (deck-faulty p (take n d)) z)), given-listed p e (givenTo e) (gift-allowed e) (given-bytes e h)))))
   where
     go : (x : Plan) → Only NotLarge (OwnListed e) (GivenListed e) x → Lists (editNumbers e) (says x)
     go (become rs) f = tt

@@ -23,6 +23,7 @@ use Rattle.rule.specs.Rule.{Rule, elementsIn}
 use Rattle.deck.specs.Deck.{readAs, readBy, readDeck, answered, place-small, read-writes-back}
 use Rattle.plan.specs.Given.{given}
 use Rattle.plan.specs.Edit.{Edit, switch, rename, remove, insert, addRule, addElement, addWord, Plan, become, refuse, refuseGiven, planned, says}
+use Rattle.plan.specs.Handed.{Handed}
 use Rattle.tables.specs.Tables.{ruleWidth, elementWidth, inTables, tabled, readSays}
 use Rattle.view.specs.declared.View.{View}
 use Rattle.view.specs.declared.View.the-variants.{At, No}
@@ -38,8 +39,15 @@ BytesOf nothing = Unit {0}
 BytesOf (aDeck s) = Bytes s
 BytesOf (anElement id s) = Bytes s
 
-unfoldable pub Lent : Edit → Type 0
-Lent e = BytesOf (givenTo e)
+pub given-bytes : (e : Edit) → Handed e → BytesOf (givenTo e)
+unfolding Handed
+given-bytes (switch k on) h = tt
+given-bytes (rename k name) h = tt
+given-bytes (remove k) h = tt
+given-bytes (insert k second j) h = h
+given-bytes (addRule name f id s) h = h .1 .1 .1
+given-bytes (addElement id s) h = h .1
+given-bytes (addWord word) h = tt
 
 -- a reading in an edition
 read-small : (edition : ℕ) (p : Product) (s : List ℕ) → editionOf edition ≡ Edition.Of p → Bytes s → placeOf (answered (readAs p s)) ≤ 60000
@@ -76,9 +84,9 @@ module _ (edition : ℕ) (p : Product) (ed : editionOf edition ≡ Edition.Of p)
   given-small (aDeck s) h = deck-small s h
   given-small (anElement id s) h = element-small id s h
 
-pub plan-small : (edition n : ℕ) (d : List ℕ) (e : Edit) → Bytes d → Lent e → placeOf (says (planned edition n d e)) ≤ 60000
-unfolding says Lent
-plan-small edition n d e b h = go (planned edition n d e) (only-planned Small Small edition n d e (small-owns e) (λ p f. (deck-small edition p f (take n d) (bytes-take n d b), given-small edition p f (givenTo e) h)))
+pub plan-small : (edition n : ℕ) (d : List ℕ) (e : Edit) → Bytes d → Handed e → placeOf (says (planned edition n d e)) ≤ 60000
+unfolding says
+plan-small edition n d e b h = go (planned edition n d e) (only-planned Small Small edition n d e (small-owns e) (λ p f. (deck-small edition p f (take n d) (bytes-take n d b), given-small edition p f (givenTo e) (given-bytes e h))))
   where
     go : (x : Plan) → Only NotLarge Small Small x → placeOf (says x) ≤ 60000
     go (become rs) f = f

@@ -40,11 +40,11 @@ use Rattle.view.specs.Word.{wordView}
 use Rattle.view.specs.Fixed.{fixedFields, fieldsSay}
 use Rattle.plan.specs.Edit.{Edit, Plan, become, refuse, refuseGiven, planned, says, leaves}
 use Rattle.plan.specs.Given.{given, givenBy, withData}
+use Rattle.plan.specs.Handed.{Handed}
 use Rattle.plan.specs.Found.{Edits}
 use Rattle.start.specs.Start.{startSays, startLeaves, start-none}
 use Rattle.bounds.specs.Data.{row-refuses}
 use Rattle.bounds.specs.Refused.{as-refused}
-use Rattle.bounds.specs.Places.{Lent}
 use Rattle.bounds.specs.Listed.{Numbers, numbers, exactly, allowed, allowed-later, Lists}
 use Rattle.bounds.specs.Faulty.{elementNumbers, ElementListed, element-listed}
 use Rattle.bounds.specs.Calls.{checkNumbers, check-listed, passSays, pass-listed, readNumbers, read-listed, viewNumbers, name-listed, word-listed, fixed-listed, editNumbers, edit-listed}
@@ -118,7 +118,7 @@ pub fields-refuse : (edition k : ℕ) (s : List ℕ) → Lists (viewNumbers 0) (
 fields-refuse edition k s = fixed-listed edition k s
 
 -- the seven edits: 1 to 13, 15, 18 to 20, and what each judges of its own and of what it is given
-pub edit-refuses : (edition n : ℕ) (e : Edit) (d : List ℕ) {r : Outcome} {x : List ℕ} → Lent e → Edits edition n e d r x → Lists (editNumbers e) r
+pub edit-refuses : (edition n : ℕ) (e : Edit) (d : List ℕ) {r : Outcome} {x : List ℕ} → Handed e → Edits edition n e d r x → Lists (editNumbers e) r
 edit-refuses edition n e d h f = edit-listed edition n e d h f
 
 -- "it refuses only with 20"

@@ -1,29 +1,71 @@
 -- Demand 3: from an accepted deck, after any run of edits, the buffer holds the deck that would be written afresh from the edited list of
 -- rules. Bytes past the longest deck length so far are never touched.
-use Prim.Native.Nat.{ℕ, _≤_}
-use mathlib.Core.Path.{_≡_}
+use Prim.Native.Nat.{ℕ, _+_, _≤_}
+use native.Mathlib.Omega.{arith}
+use mathlib.Core.Path.{_≡_, refl, ap, ap₂, _∙_}
 use mathlib.Core.List.{List, []}
-use lib.ListN.{length, take, drop}
-use Rattle.format.specs.Format.{got, Bytes}
+use lib.Dec.{eqb}
+use lib.ListN.{length, take}
+use borrow.Author.Tests.{ne-eqb}
+use Rattle.format.specs.declared.Outcome.{Outcome}
+use Rattle.format.specs.declared.Outcome.the-variants as Outcome
+use Rattle.format.specs.Fault.{numberOf, numbered, codeOf, placeOf, packed, packed-code, packed-place}
+use Rattle.format.specs.Format.{got, Bytes, pick}
 use Rattle.kind.specs.declared.Product.{Product}
+use Rattle.kind.specs.declared.Product.the-variants.{Studio}
 use Rattle.kind.specs.declared.Edition.the-variants as Edition
 use Rattle.kind.specs.Kinds.{editionOf}
 use Rattle.rule.specs.Rule.{Rule}
 use Rattle.deck.specs.Deck.{readAs}
-use Rattle.plan.specs.Edit.{Edit}
-use Rattle.start.specs.Start.{startLeaves}
-use Rattle.runs.specs.Fits.{Every}
-use Rattle.runs.specs.Kept.{Handed}
-use Rattle.runs.specs.Run.{run, runRules, bufferWith, from-accepted, from-start, Good, Rules, untouched}
+use Rattle.plan.specs.Edit.{Edit, planned, says}
+use Rattle.plan.specs.Found.{Edits}
+use Rattle.start.specs.Start.{startSays, startLeaves}
+use Rattle.runs.specs.Run.{Buffer, Call, Promise, Ran, Steps, step, lengthFrom, edit-step, Called, called, runRules}
+use Rattle.runs.specs.Left.{Left, at-accepted, at-start, calls, runIn, left-by, left-in}
+use Rattle.rule_deck.specs.Sent.{Sends, lengthSent}
 
-module _ (edition : ℕ) (p : Product) (ed : editionOf edition ≡ Edition.Of p) (d : List ℕ) where
-  pub after-any-run : (n m : ℕ) (rs : List Rule) (es : List Edit) → Bytes d → n ≤ length d → readAs p (take n d) ≡ got rs m → Every Handed es
-      → run edition es (d, n) ≡ bufferWith d (runRules p (length d) es (rs, n))
-  after-any-run = from-accepted edition p ed d
+-- ---- whatever an edit of the library promises is a step of a run: the buffer that it leaves, and the length that it answers or, refused, the old one
+pub edits-step : (edition n : ℕ) (e : Edit) (d : List ℕ) (r : Outcome) (d′ : List ℕ) → Edits edition n e d r d′ → (d′, lengthFrom n r) ≡ step (edition, e) (d, n)
+edits-step = edit-step
 
-  -- starting an empty deck begins a run
-  pub after-a-start : (es : List Edit) → 7 ≤ length d → Every Handed es → run edition es (startLeaves d, 7) ≡ bufferWith d (runRules p (length d) es ([], 7))
-  after-a-start = from-start edition p ed d
+-- so is whatever a call for C promises, "one 64-bit number, code plus 256 times place", and what it was handed is what the theorem asks for
+length-sent : (n : ℕ) (o : Outcome) → lengthSent n (packed o) ≡ lengthFrom n o
+unfolding pick
+length-sent n o = rw (packed-code o, packed-place o) (go o)
+  where
+    go : (o : Outcome) → pick (eqb (codeOf o) 0) (placeOf o) n ≡ lengthFrom n o
+    go (Outcome.Done m) = refl
+    go (Outcome.No c q) = rw (ne-eqb (numberOf c) 0 (λ e. omega (arith, numbered c .some)))
+    go (Outcome.Given c q) = rw (ne-eqb (numberOf c + 32) 0 (λ e. omega arith))
 
-  pub never-touched : (l : Rules) → Good p (length d) l → drop (l .1) (bufferWith d l .0) ≡ drop (l .1) d
-  never-touched = untouched edition p ed d
+pub sends-step : Steps Sends lengthSent
+unfolding step
+sends-step edition n e d r d′ f = (f .0, ap₂ (λ (x : List ℕ) (m : ℕ). (x, m)) (f .1 .1) (ap (lengthSent n) (f .1 .0) ∙ length-sent n (says (planned edition n d e))))
+
+-- ---- b is the buffer d, with the length of its deck, after a run of such calls
+module _ {A : Type 0} {P : Promise A} {next : ℕ → A → ℕ} (is : Steps P next) (d : List ℕ) {b : Buffer} where
+  -- each call in an edition of its own; Studio takes what either takes, and reads it back
+  pub after-any-run : (p : Product) (n m : ℕ) (rs : List Rule) (cs : List Call) → Bytes d → n ≤ length d → readAs p (take n d) ≡ got rs m
+      → Ran P next cs (d, n) b → Left Studio d (runRules (length d) cs (rs, n)) b
+  after-any-run p n m rs cs bs l r h = left-by is cs (at-accepted p d n m rs bs l r) h
+
+  -- an accepted start of an empty deck begins a run
+  pub after-a-start : (cs : List Call) → codeOf (startSays (length d)) ≡ 0 → Ran P next cs (startLeaves d, placeOf (startSays (length d))) b → Left Studio d (runRules (length d) cs ([], 7)) b
+  after-a-start cs e h = left-by is cs (at-start Studio d e) h
+
+  -- all in the edition that accepted the deck: the list takes every edit
+  module _ (edition : ℕ) (p : Product) (ed : editionOf edition ≡ Edition.Of p) (es : List Edit) where
+    pub in-one-edition : (n m : ℕ) (rs : List Rule) → Bytes d → n ≤ length d → readAs p (take n d) ≡ got rs m → Ran P next (calls edition es) (d, n) b → Left p d (runIn p (length d) es (rs, n)) b
+    in-one-edition n m rs bs l r h = left-in is edition es ed (at-accepted p d n m rs bs l r) h
+
+    pub start-in-one-edition : codeOf (startSays (length d)) ≡ 0 → Ran P next (calls edition es) (startLeaves d, placeOf (startSays (length d))) b → Left p d (runIn p (length d) es ([], 7)) b
+    start-in-one-edition e h = left-in is edition es ed (at-start p d e) h
+
+-- ---- which is so of the library's edits, and of the calls for C
+pub after-any-edits : (d : List ℕ) {b : Buffer} (p : Product) (n m : ℕ) (rs : List Rule) (cs : List Call) → Bytes d → n ≤ length d → readAs p (take n d) ≡ got rs m
+    → Ran Called lengthFrom cs (d, n) b → Left Studio d (runRules (length d) cs (rs, n)) b
+after-any-edits d = after-any-run called d
+
+pub after-any-sends : (d : List ℕ) {b : Buffer} (p : Product) (n m : ℕ) (rs : List Rule) (cs : List Call) → Bytes d → n ≤ length d → readAs p (take n d) ≡ got rs m
+    → Ran Sends lengthSent cs (d, n) b → Left Studio d (runRules (length d) cs (rs, n)) b
+after-any-sends d = after-any-run sends-step d

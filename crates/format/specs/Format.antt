@@ -95,6 +95,11 @@ bytes-take zero s h = tt
 bytes-take (suc k) [] h = tt
 bytes-take (suc k) (x ∷ s) h = (h .0, bytes-take k s (h .1))
 
+pub bytes-append : (s t : List ℕ) → Bytes s → Bytes t → Bytes (s ++ t)
+unfolding Bytes
+bytes-append [] t b c = c
+bytes-append (x ∷ s) t b c = (b .0, bytes-append s t (b .1) c)
+
 -- what is known of a byte slice: each fits a byte
 pub bytes-all : (s : List ℕ) → ((i : ℕ) → Fits w8 (getD s i 0)) → Bytes s
 unfolding Bytes

@@ -133,6 +133,12 @@ offered-is p (Is j) {k} e = go (inProduct p j) e
     go true h = h
     go false h = row-or-fault h refl
 
+-- "Studio has all 35"
+pub all-offered : (r : Row) → offered Studio r ≡ r
+unfolding offered pick
+all-offered (Is k) = refl
+all-offered (No c q) = refl
+
 -- what the table lacks is Unknown, and what a product lacks is Foreign
 pub lacking : (rows : List (Kind × List ℕ)) (id : ℕ) {c : Fault} {q : ℕ} → rowIn rows id ≡ No c q → c ≡ Fault.Unknown
 unfolding rowIn pick

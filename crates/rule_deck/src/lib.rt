@@ -77,13 +77,13 @@ pub extern "C" fn rule_deck_start(buf: &mut [u8]) -> u64
 pub extern "C" fn rule_deck_switch(
     edition: u64,
     buf: &mut [u8],
-    length: u64,
+    stated: u64,
     k: u64,
     on: bool,
 ) -> u64
-    ensures { λ r. ⌜ Sends edition length (switch k on) (now (buf .entry)) r (now (buf .exit)) ⌝ }
+    ensures { λ r. ⌜ Sends edition stated (switch k on) (now (buf .entry)) r (now (buf .exit)) ⌝ }
 {
-    pack(change::switch(edition, buf, length as usize, k, on))
+    pack(change::switch(edition, buf, stated as usize, k, on))
 }
 
 // Renames rule k.
@@ -91,21 +91,21 @@ pub extern "C" fn rule_deck_switch(
 pub extern "C" fn rule_deck_rename(
     edition: u64,
     buf: &mut [u8],
-    length: u64,
+    stated: u64,
     k: u64,
     name: &[u8],
 ) -> u64
-    ensures { λ r. ⌜ Sends edition length (rename k (now (name .entry))) (now (buf .entry)) r (now (buf .exit)) ⌝ }
+    ensures { λ r. ⌜ Sends edition stated (rename k (now (name .entry))) (now (buf .entry)) r (now (buf .exit)) ⌝ }
 {
-    pack(change::rename(edition, buf, length as usize, k, name))
+    pack(change::rename(edition, buf, stated as usize, k, name))
 }
 
 // Removes rule k.
 #[no_mangle]
-pub extern "C" fn rule_deck_remove(edition: u64, buf: &mut [u8], length: u64, k: u64) -> u64
-    ensures { λ r. ⌜ Sends edition length (remove k) (now (buf .entry)) r (now (buf .exit)) ⌝ }
+pub extern "C" fn rule_deck_remove(edition: u64, buf: &mut [u8], stated: u64, k: u64) -> u64
+    ensures { λ r. ⌜ Sends edition stated (remove k) (now (buf .entry)) r (now (buf .exit)) ⌝ }
 {
-    pack(remove::remove(edition, buf, length as usize, k))
+    pack(remove::remove(edition, buf, stated as usize, k))
 }
 
 // Inserts at place k a copy of rule j of a second deck.
@@ -113,14 +113,14 @@ pub extern "C" fn rule_deck_remove(edition: u64, buf: &mut [u8], length: u64, k:
 pub extern "C" fn rule_deck_insert(
     edition: u64,
     buf: &mut [u8],
-    length: u64,
+    stated: u64,
     k: u64,
     second: &[u8],
     j: u64,
 ) -> u64
-    ensures { λ r. ⌜ Sends edition length (insert k (now (second .entry)) j) (now (buf .entry)) r (now (buf .exit)) ⌝ }
+    ensures { λ r. ⌜ Sends edition stated (insert k (now (second .entry)) j) (now (buf .entry)) r (now (buf .exit)) ⌝ }
 {
-    pack(insert::insert(edition, buf, length as usize, k, second, j))
+    pack(insert::insert(edition, buf, stated as usize, k, second, j))
 }
 
 // Adds a rule at the end.
@@ -128,7 +128,7 @@ pub extern "C" fn rule_deck_insert(
 pub extern "C" fn rule_deck_add_rule(
     edition: u64,
     buf: &mut [u8],
-    length: u64,
+    stated: u64,
     name: &[u8],
     signature: u32,
     on: bool,
@@ -139,7 +139,7 @@ pub extern "C" fn rule_deck_add_rule(
     identifier: u32,
     s: &[u8],
 ) -> u64
-    ensures { λ r. ⌜ Sends edition length (addRule (now (name .entry)) (fieldsOf signature on unknown2 unknown3 unknown4 unknown5) identifier (now (s .entry))) (now (buf .entry)) r (now (buf .exit)) ⌝ }
+    ensures { λ r. ⌜ Sends edition stated (addRule (now (name .entry)) (fieldsOf signature on unknown2 unknown3 unknown4 unknown5) identifier (now (s .entry))) (now (buf .entry)) r (now (buf .exit)) ⌝ }
 {
     let fields = Fields {
         signature,
@@ -149,7 +149,7 @@ pub extern "C" fn rule_deck_add_rule(
         unknown4,
         unknown5,
     };
-    pack(add::add_rule(edition, buf, length as usize, name, fields, identifier, s))
+    pack(add::add_rule(edition, buf, stated as usize, name, fields, identifier, s))
 }
 
 // Adds an element to the last rule.
@@ -157,19 +157,19 @@ pub extern "C" fn rule_deck_add_rule(
 pub extern "C" fn rule_deck_add_element(
     edition: u64,
     buf: &mut [u8],
-    length: u64,
+    stated: u64,
     identifier: u32,
     s: &[u8],
 ) -> u64
-    ensures { λ r. ⌜ Sends edition length (addElement identifier (now (s .entry))) (now (buf .entry)) r (now (buf .exit)) ⌝ }
+    ensures { λ r. ⌜ Sends edition stated (addElement identifier (now (s .entry))) (now (buf .entry)) r (now (buf .exit)) ⌝ }
 {
-    pack(add::add_element(edition, buf, length as usize, identifier, s))
+    pack(add::add_element(edition, buf, stated as usize, identifier, s))
 }
 
 // Adds a word to the list that is the last element of the last rule.
 #[no_mangle]
-pub extern "C" fn rule_deck_add_word(edition: u64, buf: &mut [u8], length: u64, word: &[u8]) -> u64
-    ensures { λ r. ⌜ Sends edition length (addWord (now (word .entry))) (now (buf .entry)) r (now (buf .exit)) ⌝ }
+pub extern "C" fn rule_deck_add_word(edition: u64, buf: &mut [u8], stated: u64, word: &[u8]) -> u64
+    ensures { λ r. ⌜ Sends edition stated (addWord (now (word .entry))) (now (buf .entry)) r (now (buf .exit)) ⌝ }
 {
-    pack(word::add_word(edition, buf, length as usize, word))
+    pack(word::add_word(edition, buf, stated as usize, word))
 }

@@ -21,21 +21,9 @@ use Rattle.deck.specs.Deck.{read-writes-back}
 use Rattle.deck.specs.Written.{written}
 use Rattle.plan.specs.Given.{isText, units}
 use Rattle.plan.specs.Edit.{Edit, switch, rename, remove, insert, addRule, addElement, addWord, Plan, become, refuse, refuseGiven, atRule, atCopy, atSecond, atLast, atList, unlessFull, ifText, atGiven, edited, room, inRoom, switched, renamed, holding, newRule}
+use Rattle.plan.specs.Handed.{HandedFields, Handed}
 use Rattle.runs.specs.Fits.{Every, every-append, every-take, every-drop, Fits, fits-deck}
 use Rattle.runs.specs.Given.{text-fits, word-fits, given-fits, word-more}
-
--- what callers can hand over: bytes, and numbers of 32 bits
-abbrev pub HandedFields : Fields → Type 0
-HandedFields f = (f .signature < 256 ^ 4) × ((f .unknown2 < 256 ^ 4) × ((f .unknown3 < 256 ^ 4) × ((f .unknown4 < 256 ^ 4) × (f .unknown5 < 256 ^ 4))))
-
-unfoldable pub Handed : Edit → Type 0
-Handed (switch k on) = Unit {0}
-Handed (rename k name) = Bytes name
-Handed (remove k) = Unit {0}
-Handed (insert k second j) = Bytes second
-Handed (addRule name f id s) = Bytes name × (HandedFields f × ((id < 256 ^ 4) × Bytes s))
-Handed (addElement id s) = (id < 256 ^ 4) × Bytes s
-Handed (addWord word) = Bytes word
 
 -- ---- a plan that is a list, taken apart
 no-list : {B : Type 0} {c : Fault} {q : ℕ} {rs : List Rule} → refuse c q ≡ become rs → B

@@ -1,4 +1,7 @@
+pub mod Spelt
 pub mod Fits
+pub mod Both
 pub mod Given
 pub mod Kept
 pub mod Run
+pub mod Left

@@ -11,7 +11,7 @@ use lib.Dec.{leb, eqb}
 use borrow.Author.Tests.{le-leb, leb-true, eqb-true, eqb-false}
 use Rattle.format.specs.declared.Fault.{Fault}
 use Rattle.format.specs.declared.Fault.the-variants.{Cut}
-use Rattle.format.specs.Format.{Answer, got, refused, shift, mapped, andThen, endOf, pick, Bytes, bytes-drop, bytes-take, Found, Format, apart, went, mapped-got, end-mapped, end-then}
+use Rattle.format.specs.Format.{Answer, got, refused, shift, mapped, andThen, endOf, pick, Bytes, bytes-drop, bytes-take, bytes-append, Found, Format, apart, went, mapped-got, end-mapped, end-then}
 use Rattle.format.specs.ReadWrite.{pairRead, pairWrite, PairFit, judge, judgeOf, JudgedFit, ViaFit, home, value, spelt, numberRead, within, bit, eachRead, eachWrite, AllFit, EachFit, weighed, WeighedFit}
 
 -- two runs of bytes that were found one behind the other, as one
@@ -121,6 +121,11 @@ unfolding spelt
 length-spelt zero n = refl
 length-spelt (suc k) n = ap suc (length-spelt k (n / 256))
 
+pub bytes-spelt : (k n : ℕ) → Bytes (spelt k n)
+unfolding spelt Bytes
+bytes-spelt zero n = tt
+bytes-spelt (suc k) n = (omega arith, bytes-spelt k (n / 256))
+
 pub value-spelt : (k n : ℕ) → n < 256 ^ k → value (spelt k n) ≡ n
 unfolding value spelt
 value-spelt zero n h = omega arith
@@ -223,6 +228,11 @@ within-is low high n e = go (leb low n) refl e
 
 -- ---- rows
 module _ {A : Type 0} (a : ℕ → Format A) where
+  pub bytes-each : (i : ℕ) (xs : List A) → ((j : ℕ) (x : A) → Bytes (a j .write x)) → Bytes (eachWrite a i xs)
+  unfolding eachWrite Bytes
+  bytes-each i [] f = tt
+  bytes-each i (x ∷ xs) f = bytes-append (a i .write x) (eachWrite a (i + 1) xs) (f i x) (bytes-each (i + 1) xs f)
+
   pub each-back : (i k : ℕ) (xs : List A) (t : List ℕ) → EachFit a i k xs → eachRead a i k (eachWrite a i xs ++ t) ≡ got xs (length (eachWrite a i xs))
   unfolding eachRead eachWrite AllFit andThen mapped shift
   each-back i zero [] t f = refl

@@ -1,16 +1,15 @@
 use Rattle.format.specs.Format.{bytes-all}
-use Rattle.bounds.specs.Places.{Lent}
+use Rattle.plan.specs.Handed.{hand-add-element}
 use Rattle.rule_deck.specs.Sent.{fits-packed, sent}
 use borrow.Author.Needs.{needs}
 use Rattle.rule_deck.proofs.rule_deck_add_element.Statement.{statement}
 use Rattle.rule_deck.proofs.rule_deck_add_element.Tie as tie
 
 pack-requires : tie.Need-pack-requires
-unfolding Lent
-pack-requires c κs = fits-packed _ _ _ _ (bytes-all (c .before .before .before .before .before .before .args .buf .now) (c .before .before .before .before .before .slice-known .given)) (bytes-all (c .before .before .before .before .before .before .args .s .now) (c .before .before .before .before .shared-slice-known .given)) (c .before .before .add-element .ensures)
+pack-requires c κs = fits-packed _ _ _ _ (bytes-all (c .before .before .before .before .before .before .args .buf .now) (c .before .before .before .before .before .slice-known .given)) (hand-add-element _ (c .before .before .before .before .before .before .args .s .now) (c .before .before .before .before .before .before .fits .identifier) (c .before .before .before .before .shared-slice-known .given)) (c .before .before .add-element .ensures)
 
 returns : tie.Need-returns
-returns c = sent _ _ _ _ (c .before .before .before .add-element .ensures) (c .pack .ensures)
+returns c = sent _ _ _ _ (hand-add-element _ (c .before .before .before .before .before .before .before .args .s .now) (c .before .before .before .before .before .before .before .fits .identifier) (c .before .before .before .before .before .shared-slice-known .given)) (c .before .before .before .add-element .ensures) (c .pack .ensures)
 
 pub rule-deck-add-element-spec : {M : Type 1} → statement M
 rule-deck-add-element-spec =
