@@ -1,8 +1,7 @@
 -- Document 01's deck of 70 bytes, which Studio takes and Desk does not: of a switch in each edition the list takes Studio's.
-use Prim.Native.Nat.{ℕ}
 use mathlib.Core.Path.{_≡_, refl}
 use mathlib.Core.Bool.{false}
-use mathlib.Core.List.{List, [], _∷_}
+use mathlib.Core.List.{[], _∷_}
 use Rattle.format.specs.Format.{shift, mapped, andThen, pick, whole}
 use Rattle.format.specs.Join.{pair, pairRead, pairWrite, seq, _then_, judged, judgeOf, judge, via, home, atStart, nothing}
 use Rattle.format.specs.Number.{number, numberRead, within, count, fixed, bytes, flag, bit, value, spelt}
