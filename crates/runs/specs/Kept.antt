@@ -1,5 +1,5 @@
 -- An edit of rules that fit makes rules that fit.
-use Prim.Native.Nat.{ℕ, _+_, _-_, _≤_, _<_, _^_}
+use Prim.Native.Nat.{ℕ, _+_, _-_, _≤_, _<_}
 use native.Mathlib.Omega.{arith}
 use mathlib.Core.Path.{_≡_, refl, ap}
 use mathlib.Core.Bool.{Bool, true, false}
@@ -8,7 +8,7 @@ use lib.Dec.{leb, ltb}
 use lib.ListN.{length, take, drop, length-append, take-append-drop}
 use borrow.Author.Tests.{leb-true, ltb-true}
 use Rattle.format.specs.declared.Fault.{Fault}
-use Rattle.format.specs.Format.{Answer, got, refused, Format, Bytes, pick}
+use Rattle.format.specs.Format.{Answer, got, refused, Format, pick}
 use Rattle.format.specs.ReadWrite.{AllFit}
 use Rattle.format.specs.Laws.ReadWrite.{all-append, all-take, all-drop}
 use Rattle.text.specs.Text.{string, word}

@@ -5,3 +5,4 @@ pub mod Given
 pub mod Kept
 pub mod Run
 pub mod Left
+pub mod Sample

@@ -1,8 +1,7 @@
 -- A written deck is bytes, whatever its rules.
-use Prim.Native.Nat.{ℕ, _+_}
-use mathlib.Core.Path.{_≡_, refl}
+use Prim.Native.Nat.{ℕ}
 use mathlib.Core.Bool.{Bool, true, false}
-use mathlib.Core.List.{List, [], _∷_, _++_}
+use mathlib.Core.List.{List}
 use lib.Dec.{eqb}
 use lib.ListN.{length}
 use Rattle.format.specs.declared.Fault.the-variants as Fault
@@ -18,7 +17,7 @@ use Rattle.kind.specs.declared.Product.the-variants.{Studio}
 use Rattle.kind.specs.declared.Row.{Row}
 use Rattle.kind.specs.declared.Row.the-variants as Row
 use Rattle.kind.specs.Kinds.{kinds, rowIn}
-use Rattle.element.specs.Data.{Data, Limit, wordsOf, sizesOf, spanOf, oneZero, markerData, simpleData, wordData, sizeData, limit, dateData, dataOf}
+use Rattle.element.specs.Data.{wordsOf, sizesOf, spanOf, oneZero, markerData, simpleData, wordData, sizeData, limit, dateData, dataOf}
 use Rattle.element.specs.Element.{Element, identifier, element, dataBy}
 use Rattle.rule.specs.Rule.{Rule, rule, head, firstHead, classHead, separator, placed}
 use Rattle.rule.specs.Parts.{kept, front, inner, headBytes, sizeOf, back, rule-is}
