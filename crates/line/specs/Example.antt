@@ -1,8 +1,7 @@
 -- Document 01's listing, "One deck whole", line by line; and the longest number.
-use Prim.Native.Nat.{ℕ}
 use mathlib.Core.Path.{_≡_, refl}
 use mathlib.Core.Bool.{true}
-use mathlib.Core.List.{List, [], _∷_, _++_}
+use mathlib.Core.List.{[], _∷_}
 use Rattle.format.specs.Format.{pick}
 use Rattle.line.specs.Line.{digits, decimal, hexDigit, identifier, state, deckLine, ruleLine, elementLine, endLine, refusedLine}
 

@@ -1,5 +1,5 @@
 -- The lines of a listing as bytes: document 01, "One deck whole".
-use Prim.Native.Nat.{ℕ, zero, suc, _+_, _-_, _/_, _%_, _^_, _≤_, _<_}
+use Prim.Native.Nat.{ℕ, zero, suc, _+_, _-_, _*_, _/_, _%_, _^_, _≤_, _<_}
 use native.Mathlib.Nat.{not-suc-le-zero, le-of-suc-le-suc, pow-suc}
 use native.Mathlib.Omega.{arith}
 use mathlib.Core.Path.{_≡_, refl, sym, ap, _∙_}
@@ -81,15 +81,15 @@ fewer : (n j : ℕ) → n < 10 ^ suc j → n / 10 < 10 ^ j
 fewer n j h = let e = pow-suc 10 j in omega arith
 
 -- what a turn of the loop leaves: the digits of the rest, then those that stand from i on
-pub record Spelt (s : List ℕ) (i rest n : ℕ) : Type 0 where
+pub record Spelling (s : List ℕ) (i rest n : ℕ) : Type 0 where
   pub is : digits i rest ++ drop i s ≡ decimal n
   pub long : length s ≡ 20
   pub low : i ≤ 19
   pub small : rest < 10 ^ i
 
-pub spelt-first : (s : List ℕ) (n : ℕ) → length s ≡ 20 → n < 2 ^ 64 → Spelt (set s 19 (48 + n % 10)) 19 (n / 10) n
+pub spelling-first : (s : List ℕ) (n : ℕ) → length s ≡ 20 → n < 2 ^ 64 → Spelling (set s 19 (48 + n % 10)) 19 (n / 10) n
 unfolding decimal
-spelt-first s n h k =
+spelling-first s n h k =
     record {
       is = ap (λ (l : List ℕ). digits 19 (n / 10) ++ l) (drop-set s 19 (48 + n % 10) (omega arith) ∙ ap (λ (l : List ℕ). (48 + n % 10) ∷ l) (drop-of-length-le s {i = 20} (omega arith)));
       long = length-set s 19 (48 + n % 10) ∙ h;
@@ -97,10 +97,10 @@ spelt-first s n h k =
       small = omega arith;
     }
 
-pub spelt-next : {s : List ℕ} {n : ℕ} (i rest : ℕ) → Spelt s i rest n → 0 < rest → Spelt (set s (i - 1) (48 + rest % 10)) (i - 1) (rest / 10) n
+pub spelling-next : {s : List ℕ} {n : ℕ} (i rest : ℕ) → Spelling s i rest n → 0 < rest → Spelling (set s (i - 1) (48 + rest % 10)) (i - 1) (rest / 10) n
 unfolding digits pick
-spelt-next zero rest h p = absurd (omega (arith, h .small))
-spelt-next {s} {n} (suc j) rest h p =
+spelling-next zero rest h p = absurd (omega (arith, h .small))
+spelling-next {s} {n} (suc j) rest h p =
     let o : suc j - 1 ≡ j = omega arith in
     let x = 48 + rest % 10 in
     let d : digits j (rest / 10) ++ drop j (set s j x) ≡ digits (suc j) rest ++ drop (suc j) s =
@@ -112,12 +112,12 @@ unfolding digits pick
 none zero = refl
 none (suc i) = refl
 
-pub spelt-last : {s : List ℕ} {n i rest : ℕ} → Spelt s i rest n → rest ≡ 0 → drop i s ≡ decimal n
-spelt-last {s} {n} {i} h e = ap (λ (l : List ℕ). l ++ drop i s) (sym (none i)) ∙ ap (λ (r : ℕ). digits i r ++ drop i s) (sym e) ∙ h .is
+pub spelling-last : {s : List ℕ} {n i rest : ℕ} → Spelling s i rest n → rest ≡ 0 → drop i s ≡ decimal n
+spelling-last {s} {n} {i} h e = ap (λ (l : List ℕ). l ++ drop i s) (sym (none i)) ∙ ap (λ (r : ℕ). digits i r ++ drop i s) (sym e) ∙ h .is
 
-pub spelt-left : {s : List ℕ} {n : ℕ} (i rest : ℕ) → Spelt s i rest n → 0 < rest → 1 ≤ i
-spelt-left zero rest h p = absurd (omega (arith, h .small))
-spelt-left (suc j) rest h p = omega arith
+pub spelling-left : {s : List ℕ} {n : ℕ} (i rest : ℕ) → Spelling s i rest n → 0 < rest → 1 ≤ i
+spelling-left zero rest h p = absurd (omega (arith, h .small))
+spelling-left (suc j) rest h p = omega arith
 
 pub state-on : (on : Bool) → on ≡ true → 0x20 ∷ 0x4F ∷ 0x4E ∷ [] ≡ spaced (state on)
 unfolding state pick
@@ -154,3 +154,28 @@ pub refused-is : (number place : ℕ)
     → (((0x52 ∷ 0x45 ∷ 0x46 ∷ 0x55 ∷ 0x53 ∷ 0x45 ∷ 0x44 ∷ []) ++ spaced (decimal number)) ++ spaced (decimal place)) ++ newline ≡ refusedLine number place
 unfolding refusedLine
 refused-is number place = simp append-assoc
+
+-- ---- the digits are the number's: read back, they give it
+
+unfoldable pub valueOf : ℕ → List ℕ → ℕ
+valueOf v [] = v
+valueOf v (d ∷ ds) = valueOf (10 * v + (d - 48)) ds
+
+value-append : (v : ℕ) (xs ys : List ℕ) → valueOf v (xs ++ ys) ≡ valueOf (valueOf v xs) ys
+unfolding valueOf
+value-append v [] ys = refl
+value-append v (x ∷ xs) ys = value-append (10 * v + (x - 48)) xs ys
+
+value-last : (n : ℕ) (xs : List ℕ) → valueOf 0 xs ≡ n / 10 → valueOf 0 (xs ++ ((48 + n % 10) ∷ [])) ≡ n
+unfolding valueOf
+value-last n xs e = value-append 0 xs ((48 + n % 10) ∷ []) ∙ omega (arith, e)
+
+value-digits : (k n : ℕ) → n < 10 ^ k → valueOf 0 (digits k n) ≡ n
+unfolding digits pick valueOf
+value-digits zero n h = omega arith
+value-digits (suc k) zero h = refl
+value-digits (suc k) (suc n) h = rw (ne-eqb (suc n) 0 (λ e. omega arith)) (value-last (suc n) (digits k (suc n / 10)) (value-digits k (suc n / 10) (fewer (suc n) k h)))
+
+pub value-decimal : (n : ℕ) → n < 2 ^ 64 → valueOf 0 (decimal n) ≡ n
+unfolding decimal
+value-decimal n h = value-last n (digits 19 (n / 10)) (value-digits 19 (n / 10) (omega arith))

@@ -1,6 +1,5 @@
 // The lines that the lister prints, put at the start of a buffer: document 01, "One deck whole".
 ghost use mathlib.Core.Path.{_≡_};
-ghost use mathlib.Core.List.{_∷_};
 ghost use Prim.Native.Nat.{_+_, _≤_};
 ghost use lib.ListN.{length, drop};
 ghost use Rattle.line.specs.Line.{decimal, hexDigit, spaced, identifier, state, deckLine, ruleLine, elementLine, endLine, refusedLine};

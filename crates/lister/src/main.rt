@@ -10,12 +10,12 @@ ghost use lib.ListN.{length};
 ghost use Rattle.view.specs.Fixed.{fixedFields};
 ghost use Rattle.view.specs.View.{nameView};
 ghost use Rattle.line.specs.Adds.{Lined};
-ghost use Rattle.lister.specs.Rows.{entry as Rows·entry, isOn, unitsOf, ruleRow, elementRow};
+ghost use Rattle.lister.specs.Listed.{entry as Listed·entry, isOn, unitsOf, ruleListed, elementListed};
 
 // Number j of row i of a table of rows of four.
 fn entry(table: &[u32], i: usize, j: usize) -> u32
     requires { ⌜ (i < 2 ^ 49) × (j < 4) ⌝ }
-    ensures { λ r. ⌜ r ≡ Rows·entry (now (table .entry)) i j ⌝ }
+    ensures { λ r. ⌜ r ≡ Listed·entry (now (table .entry)) i j ⌝ }
 {
     let at = 4 * i + j;
     if at < table.len() {
@@ -46,7 +46,7 @@ fn units(s: &[u8], k: u64) -> usize
 
 fn rule_line(line: &mut [u8; 96], s: &[u8], rules: &[u32], k: usize) -> usize
     requires { ⌜ k < 2 ^ 49 ⌝ }
-    ensures { λ r. ⌜ Lined (now (line .entry)) (ruleRow (now (s .entry)) (now (rules .entry)) k) r (now (line .exit)) ⌝ }
+    ensures { λ r. ⌜ Lined (now (line .entry)) (ruleListed (now (s .entry)) (now (rules .entry)) k) r (now (line .exit)) ⌝ }
 {
     let on = is_on(s, k as u64);
     let n = units(s, k as u64);
@@ -57,7 +57,7 @@ fn rule_line(line: &mut [u8; 96], s: &[u8], rules: &[u32], k: usize) -> usize
 // Row i is element j of its rule.
 fn element_line(line: &mut [u8; 96], elements: &[u32], i: usize, j: usize) -> usize
     requires { ⌜ i < 2 ^ 49 ⌝ }
-    ensures { λ r. ⌜ Lined (now (line .entry)) (elementRow (now (elements .entry)) i j) r (now (line .exit)) ⌝ }
+    ensures { λ r. ⌜ Lined (now (line .entry)) (elementListed (now (elements .entry)) i j) r (now (line .exit)) ⌝ }
 {
     let identifier = entry(elements, i, 0);
     let start = entry(elements, i, 2);

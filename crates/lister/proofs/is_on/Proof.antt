@@ -1,6 +1,5 @@
-use native.Mathlib.Omega.{arith}
 use borrow.Author.Needs.{needs}
-use Rattle.lister.specs.Rows.{on-is, on-none}
+use Rattle.lister.specs.Listed.{on-is, on-none}
 use Rattle.lister.proofs.is_on.Statement.{statement}
 use Rattle.lister.proofs.is_on.Tie as tie
 

@@ -1,11 +1,10 @@
-use native.Mathlib.Omega.{arith}
 use borrow.Author.Needs.{needs}
-use Rattle.lister.specs.Rows.{rule-row}
+use Rattle.lister.specs.Listed.{rule-listed}
 use Rattle.lister.proofs.rule_line.Statement.{statement}
 use Rattle.lister.proofs.rule_line.Tie as tie
 
 returns : tie.Need-returns
-returns c = rule-row _ _ _ (c .before .before .before .before .is-on .ensures) (c .before .before .before .units .ensures) (c .before .before .entry .ensures) (c .rule .ensures)
+returns c = rule-listed _ _ _ (c .before .before .before .before .is-on .ensures) (c .before .before .before .units .ensures) (c .before .before .entry .ensures) (c .rule .ensures)
 
 pub rule-line-spec : {M : Type 1} → statement M
 rule-line-spec =

@@ -1,6 +1,5 @@
-use native.Mathlib.Omega.{arith}
 use borrow.Author.Needs.{needs}
-use Rattle.lister.specs.Rows.{units-are, units-none}
+use Rattle.lister.specs.Listed.{units-are, units-none}
 use Rattle.lister.proofs.units.Statement.{statement}
 use Rattle.lister.proofs.units.Tie as tie
 

@@ -1,7 +1,6 @@
 -- The lines of a rule and of an element, from the rows of the tables and the views of the deck: document 01, "One deck whole".
-use Prim.Native.Nat.{ℕ, _+_, _-_, _*_, _/_, _≤_, _<_}
-use native.Mathlib.Omega.{arith}
-use mathlib.Core.Path.{_≡_, refl, sym, ap, _∙_}
+use Prim.Native.Nat.{ℕ, _+_, _-_, _*_, _/_, _≤_}
+use mathlib.Core.Path.{_≡_, sym, ap, _∙_}
 use mathlib.Core.Bool.{Bool, false}
 use mathlib.Core.List.{List}
 use lib.ListN.{length, getD, List·getD-eq-default}
@@ -31,12 +30,12 @@ unitsOf (View.At a n) = n / 2
 unitsOf (View.No c p) = 0
 
 -- rule k, read as Studio: "rule, state ON or OFF, name units, elements"
-unfoldable pub ruleRow : List ℕ → List ℕ → ℕ → List ℕ
-ruleRow s rules k = ruleLine k (isOn (fixedFields 2 k s)) (unitsOf (nameView 2 k s)) (entry rules k 3)
+unfoldable pub ruleListed : List ℕ → List ℕ → ℕ → List ℕ
+ruleListed s rules k = ruleLine k (isOn (fixedFields 2 k s)) (unitsOf (nameView 2 k s)) (entry rules k 3)
 
 -- row i, which is element j of its rule: "element within its rule, identifier in eight upper-case hex digits, data bytes"
-unfoldable pub elementRow : List ℕ → ℕ → ℕ → List ℕ
-elementRow elements i j = elementLine j (entry elements i 0) (entry elements i 3 - entry elements i 2)
+unfoldable pub elementListed : List ℕ → ℕ → ℕ → List ℕ
+elementListed elements i j = elementLine j (entry elements i 0) (entry elements i 3 - entry elements i 2)
 
 -- ---- as the code finds them
 pub entry-none : (table : List ℕ) (i j : ℕ) → length table ≤ 4 * i + j → 0 ≡ entry table i j
@@ -55,12 +54,12 @@ pub units-none : {v w : View} {c : Fault} {p : ℕ} → v ≡ w → v ≡ View.N
 units-none e h = ap unitsOf (sym h ∙ e)
 
 module _ {d y : List ℕ} {r : ℕ} where
-  pub rule-row : (s rules : List ℕ) (k : ℕ) {on : Bool} {units n : ℕ} → on ≡ isOn (fixedFields 2 k s) → units ≡ unitsOf (nameView 2 k s) → n ≡ entry rules k 3
-      → Lined d (ruleLine k on units n) r y → Lined d (ruleRow s rules k) r y
-  unfolding ruleRow
-  rule-row s rules k e f g l = rw (← e, ← f, ← g) l
+  pub rule-listed : (s rules : List ℕ) (k : ℕ) {on : Bool} {units n : ℕ} → on ≡ isOn (fixedFields 2 k s) → units ≡ unitsOf (nameView 2 k s) → n ≡ entry rules k 3
+      → Lined d (ruleLine k on units n) r y → Lined d (ruleListed s rules k) r y
+  unfolding ruleListed
+  rule-listed s rules k e f g l = rw (← e, ← f, ← g) l
 
-  pub element-row : (elements : List ℕ) (i j : ℕ) {a b c n : ℕ} → a ≡ entry elements i 0 → b ≡ entry elements i 2 → c ≡ entry elements i 3 → n ≡ c - b
-      → Lined d (elementLine j a n) r y → Lined d (elementRow elements i j) r y
-  unfolding elementRow
-  element-row elements i j e f g h l = rw (← e, ← f, ← g, ← h) l
+  pub element-listed : (elements : List ℕ) (i j : ℕ) {a b c n : ℕ} → a ≡ entry elements i 0 → b ≡ entry elements i 2 → c ≡ entry elements i 3 → n ≡ c - b
+      → Lined d (elementLine j a n) r y → Lined d (elementListed elements i j) r y
+  unfolding elementListed
+  element-listed elements i j e f g h l = rw (← e, ← f, ← g, ← h) l
