@@ -6,8 +6,8 @@ pub mod Each
 pub mod Sized
 pub mod Seen
 pub mod Rows
+pub mod Written
 pub mod Parts
 pub mod Sizes
-pub mod Written
 pub mod Back
 pub mod Skip
