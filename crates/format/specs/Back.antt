@@ -1,17 +1,15 @@
--- Values that are known to stand at a place: what the code reads there, and a row of them.
-use Prim.Native.Nat.{ℕ, _+_, _-_, _≤_, _<_}
-use native.Mathlib.Nat.{add-zero}
+-- Values that are known to stand at a place: what the code reads there.
+use Prim.Native.Nat.{ℕ, _+_, _-_, _≤_}
 use native.Mathlib.Omega.{arith}
-use mathlib.Core.Path.{_≡_, refl, sym, ap, _∙_}
-use mathlib.Core.List.{List, [], _∷_, _++_}
+use mathlib.Core.Path.{_≡_, sym, ap, _∙_}
+use mathlib.Core.List.{List}
 use lib.ListN.{length, drop, length-append, length-drop}
 use Rattle.format.specs.declared.Fault.{Fault}
 use Rattle.format.specs.declared.Read.{Read}
 use Rattle.format.specs.declared.Read.the-variants.{Got, No}
-use Rattle.format.specs.Format.{got, endOf, Bytes, bytes-drop, Format}
-use Rattle.format.specs.ReadWrite.{eachWrite}
-use Rattle.format.specs.Seen.{seen, told-got, unlike}
-use Rattle.format.specs.Written.{seen-back, Stands, Held, Row, first}
+use Rattle.format.specs.Format.{got, refused, endOf, Bytes, bytes-drop, Format}
+use Rattle.format.specs.Seen.{seen, told-got, told-no, unlike}
+use Rattle.format.specs.Written.{seen-back, Stands, Held}
 
 module _ {A : Type 0} (g : A → ℕ) (a : Format A) (s : List ℕ) (at : ℕ) where
   -- it is seen
@@ -24,7 +22,7 @@ module _ {A : Type 0} (g : A → ℕ) (a : Format A) (s : List ℕ) (at : ℕ) w
   pub back-no : {B : Type 0} {x : A} {u : List ℕ} {r : Read} {c : Fault} {q : ℕ} → Stands a s at x u → r ≡ seen g a s at → r ≡ No c q → B
   back-no b h k = unlike (h ∙ stands-seen b) k
 
-  -- what is seen fits, and ends within the list
+  -- what is seen fits, and ends, or is refused, within the list
   pub seen-fits : {r : Read} {v m : ℕ} → Bytes s → r ≡ seen g a s at → r ≡ Got v m → (x : A) × (a .Fit x × (v ≡ g x))
   unfolding seen
   seen-fits bs e k =
@@ -36,6 +34,13 @@ module _ {A : Type 0} (g : A → ℕ) (a : Format A) (s : List ℕ) (at : ℕ) w
   seen-ends e k =
       let o = told-got at g (a .read (drop at s)) e k in
       let i : endOf (got (o .x) (o .n)) ≤ length (drop at s) = rw (o .is) at (a .inside (drop at s)) in
+      omega (arith, o .ends, i, length-drop at s)
+
+  pub seen-stops : {r : Read} {c : Fault} {m : ℕ} → r ≡ seen g a s at → r ≡ No c m → m ≤ at + (length s - at)
+  unfolding seen endOf
+  seen-stops {c = c} e k =
+      let o = told-no at g (a .read (drop at s)) e k in
+      let i : endOf {A = A} (refused c (o .o)) ≤ length (drop at s) = rw (o .is) at (a .inside (drop at s)) in
       omega (arith, o .ends, i, length-drop at s)
 
 -- it has room there
@@ -50,41 +55,3 @@ Where {A} a s at f v = (x : A) → Held a s at x → v ≡ f x
 pub where-none : {A W : Type 0} (g : A → ℕ) (a : Format A) (s : List ℕ) (at : ℕ) (f : A → W) (v : W) {r : Read} {c : Fault} {q : ℕ} → r ≡ seen g a s at → r ≡ No c q → Where a s at f v
 unfolding Where
 where-none g a s at f v e h x b = back-no g a s at (b .1) e h
-
--- of a row of n that ends at stop, with u behind it, what stands at p from place j of the row on
-pub record Ahead {A : Type 0} (a : ℕ → Format A) (s u : List ℕ) (n stop j p : ℕ) : Type 0 where
-  pub ys : List A
-  pub many : j + length ys ≡ n
-  pub row : Row a s j p ys u
-  pub ends : p + length (eachWrite a j ys) ≡ stop
-
-module _ {A : Type 0} {a : ℕ → Format A} {s u : List ℕ} {n stop j p : ℕ} where
-  -- the next value and the row behind it
-  pub record Next (b : Ahead a s u n stop j p) : Type 0 where
-    pub x : A
-    pub tail : List ℕ
-    pub stands : Stands (a j) s p x tail
-    pub rest : Ahead a s u n stop (j + 1) (p + length (a j .write x))
-    pub splits : b .ys ≡ x ∷ rest .ys
-
-  pub next : (b : Ahead a s u n stop j p) → j < n → Next b
-  unfolding eachWrite
-  next b l =
-      let f = first a s j p (b .ys) u (omega (arith, b .many)) (b .row) in
-      let z : length (eachWrite a j (b .ys)) ≡ length (a j .write (f .x)) + length (eachWrite a (j + 1) (f .ys)) = ap (λ (ys : List A). length (eachWrite a j ys)) (f .whole) ∙ length-append (a j .write (f .x)) (eachWrite a (j + 1) (f .ys)) in
-      record {
-        x = f .x;
-        tail = eachWrite a (j + 1) (f .ys) ++ u;
-        stands = f .stands;
-        rest = record { ys = f .ys; many = omega (arith, b .many, ap length (f .whole)); row = f .rest; ends = omega (arith, b .ends, z) };
-        splits = f .whole;
-      }
-
-  -- none is left
-  pub ahead-done : (b : Ahead a s u n stop j p) → n ≤ j → (b .ys ≡ []) × (p ≡ stop)
-  unfolding eachWrite
-  ahead-done b l = go (b .ys) refl
-    where
-      go : (ys : List A) → b .ys ≡ ys → (b .ys ≡ []) × (p ≡ stop)
-      go [] e = (e, sym (add-zero p) ∙ (let z : p + length (eachWrite a j []) ≡ stop = rw e at (b .ends) in z))
-      go (x ∷ xs) e = absurd (omega (arith, b .many, ap length e))

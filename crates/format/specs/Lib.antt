@@ -4,9 +4,9 @@ pub mod ReadWrite
 pub mod Combinators
 pub mod Seen
 pub mod Rows
+pub mod Written
 pub mod Parts
 pub mod Sizes
-pub mod Written
 pub mod Back
 pub mod Skip
 pub mod Laws

@@ -11,6 +11,7 @@ use Rattle.format.specs.declared.Read.{Read}
 use Rattle.format.specs.declared.Read.the-variants.{Got, No}
 use Rattle.format.specs.Format.{endOf, Format}
 use Rattle.format.specs.Seen.{told, seen, told-got, told-no}
+use Rattle.format.specs.Written.{Stands}
 
 -- the part of a list from a place on, as the code lends it
 abbrev pub part : List ℕ → ℕ → List ℕ
@@ -18,6 +19,10 @@ part s at = take (length s - at) (drop at s)
 
 part-is : (s : List ℕ) (at : ℕ) → part s at ≡ drop at s
 part-is s at = let h : length (drop at s) ≤ length s - at = omega (arith, length-drop at s) in take-all (length s - at) (drop at s) h
+
+-- what stands at a place of the slice stands at the start of the part
+pub stands-part : {A : Type 0} (a : Format A) (s : List ℕ) (at : ℕ) {x : A} {u : List ℕ} → Stands a s at x u → Stands a (part s at) 0 x u
+stands-part a s at b = record { fit = b .fit; is = part-is s at ∙ b .is }
 
 module _ {A : Type 0} (g : A → ℕ) (a : Format A) (s : List ℕ) (at : ℕ) {r : Read} where
   whole : r ≡ seen g a (part s at) 0 → r ≡ told 0 g (a .read (drop at s))

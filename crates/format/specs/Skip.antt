@@ -5,6 +5,7 @@ use native.Mathlib.Omega.{arith}
 use mathlib.Core.Path.{_≡_, _∙_}
 use mathlib.Core.List.{List, [], _∷_, _++_, append-nil, append-assoc}
 use lib.ListN.{length, take, drop, length-append, length-drop}
+use lib.Seq.{take-all}
 use Rattle.format.specs.declared.Fault.{Fault}
 use Rattle.format.specs.declared.Read.{Read}
 use Rattle.format.specs.declared.Read.the-variants.{Got, No}
@@ -17,6 +18,15 @@ use Rattle.format.specs.Back.{Where, back-got, back-no}
 -- of a row that starts at a place, value k starts behind the k values before it
 unfoldable pub startIn : {A : Type 0} → (ℕ → Format A) → ℕ → List A → ℕ → ℕ
 startIn a from xs k = from + length (eachWrite a 0 (take k xs))
+
+-- its first starts where the row does, and behind all of them it ends
+pub start-first : {A : Type 0} (a : ℕ → Format A) (from : ℕ) (xs : List A) → from ≡ startIn a from xs 0
+unfolding startIn eachWrite
+start-first a from xs = omega arith
+
+pub start-end : {A : Type 0} (a : ℕ → Format A) (from k : ℕ) (xs : List A) → length xs ≤ k → startIn a from xs k ≡ from + length (eachWrite a 0 xs)
+unfolding startIn
+start-end a from k xs l = rw (take-all k xs l)
 
 -- one value more
 written-more : {A : Type 0} (a : ℕ → Format A) (i k : ℕ) (xs ys : List A) (x : A) → drop k xs ≡ x ∷ ys → length (eachWrite a i (take (k + 1) xs)) ≡ length (eachWrite a i (take k xs)) + length (a (i + k) .write x)
@@ -73,8 +83,8 @@ Skipped {A} a s from k i at = (xs : List A) (t : List ℕ) → Row a s 0 from xs
 
 module _ {A : Type 0} (a : ℕ → Format A) (s : List ℕ) (from k : ℕ) where
   pub skip-start : Skipped a s from k 0 from
-  unfolding Skipped startIn eachWrite
-  skip-start xs t r h = omega arith
+  unfolding Skipped
+  skip-start xs t r h = start-first a from xs
 
   module _ (i at : ℕ) where
     pub skip-end : Skipped a s from k i at → i ≤ k → k ≤ i → Skipped a s from k k at

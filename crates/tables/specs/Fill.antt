@@ -6,8 +6,8 @@ use mathlib.Core.Path.{_≡_, refl, sym, ap, ap₂, _∙_}
 use mathlib.Core.List.{List, [], _∷_, _++_, append-assoc}
 use mathlib.Core.Bool.{Bool, true, false}
 use lib.Dec.{eqb}
-use lib.ListN.{length, take, set, length-append}
-use lib.Seq.{sets-eq}
+use lib.ListN.{length, take, drop, set, length-append, drop-of-length-le}
+use lib.Seq.{sets-eq, drop-drop}
 use Rattle.format.specs.declared.Fault.{Fault}
 use Rattle.format.specs.declared.Read.{Read}
 use Rattle.format.specs.declared.Read.the-variants.{Got, No}
@@ -15,13 +15,16 @@ use Rattle.format.specs.Format.{Format, Bytes, pick}
 use Rattle.format.specs.Combinators.{pair, judged, via, seq, _then_, number}
 use Rattle.format.specs.Seen.{seen, itself}
 use Rattle.format.specs.Rows.{total}
-use Rattle.format.specs.Back.{Ahead, Next, next, ahead-done, back-got, back-no, seen-fits}
+use Rattle.format.specs.Written.{Row}
+use Rattle.format.specs.Back.{back-got, back-no, seen-fits}
+use Rattle.format.specs.Skip.{startIn, start-first, start-end, start-more, nth}
 use Rattle.kind.specs.declared.Product.{Product}
 use Rattle.element.specs.Element.{Element, element, identifier, named}
 use Rattle.rule.specs.Rule.{placed, separator}
-use Rattle.rule.specs.Places.{dataAt}
+use Rattle.rule.specs.Places.{dataAt, elementsBytes}
+use Rattle.tables.specs.declared.Entry.{Entry}
 use Rattle.buffer.specs.Laid.{put, put-none, put-on, put-length}
-use Rattle.tables.specs.Tables.{rowsOf, filled, elementRow, elementWidth}
+use Rattle.tables.specs.Tables.{rowsOf, filled, elementRow, elementRows, elementWidth}
 
 -- four stores
 pub put-four : (t : List ℕ) (at a b c d : ℕ) → at + 4 ≤ length t → set (set (set (set t at a) (at + 1) b) (at + 2) c) (at + 3) d ≡ put t at (a ∷ b ∷ c ∷ d ∷ [])
@@ -79,59 +82,67 @@ filling-done {t = t} {k = k} f e = sym (put-none t k) ∙ ap (put t k) (sym e) �
 pub filling-start : (rows t : List ℕ) (k : ℕ) → k + length rows ≤ length t → Filling rows (put t k rows) (length t) t k
 filling-start rows t k h = record { long = refl; room = h; rest = refl }
 
-module _ {A : Type 0} (a : ℕ → Format A) (row : ℕ → ℕ → A → List ℕ) {s u : List ℕ} {n stop j p : ℕ} (b : Ahead a s u n stop j p) where
-  pub rows-next : (x : Next b) → rowsOf a row j p (b .ys) ≡ row j p (x .x) ++ rowsOf a row (j + 1) (p + length (a j .write (x .x))) (x .rest .ys)
+-- of the values of a row from value j on, the first of which starts at p
+module _ {A : Type 0} (a : ℕ → Format A) (row : ℕ → ℕ → A → List ℕ) (j p : ℕ) (xs : List A) where
+  pub rows-next : {x : A} {ys : List A} → drop j xs ≡ x ∷ ys → rowsOf a row j p (drop j xs) ≡ row j p x ++ rowsOf a row (j + 1) (p + length (a j .write x)) (drop (j + 1) xs)
   unfolding rowsOf
-  rows-next x = ap (rowsOf a row j p) (x .splits)
+  rows-next {ys = ys} e =
+      let z : drop (j + 1) xs ≡ ys = sym (drop-drop 1 j xs) ∙ ap (drop 1) e in
+      rw (z, e)
 
-  pub rows-done : n ≤ j → rowsOf a row j p (b .ys) ≡ []
+  pub rows-done : length xs ≤ j → rowsOf a row j p (drop j xs) ≡ []
   unfolding rowsOf
-  rows-done l = ap (rowsOf a row j p) (ahead-done b l .0)
+  rows-done l = ap (rowsOf a row j p) (drop-of-length-le xs l)
 
--- ---- what the code promises: where values are known to stand ahead, they are read and their rows stored
+-- ---- what the code promises: where values are known to stand, they are read and their rows stored
 
--- n elements of rule i at a place: r is the answer, t becomes t₁
-abbrev pub ElementsFill : Product → List ℕ → ℕ → ℕ → ℕ → ℕ → List ℕ → List ℕ → Read → Type 0
-ElementsFill p s at i n k t t₁ r =
-    (u : List ℕ) (stop : ℕ) (a : Ahead (placed p) s u n stop 0 at) → k + length (rowsOf (placed p) (elementRow p i) 0 at (a .ys)) ≤ length t
-    → (r ≡ Got n stop) × (t₁ ≡ put t k (rowsOf (placed p) (elementRow p i) 0 at (a .ys)))
+-- n elements of rule i at a place of the rule's part, which starts at base: r is the answer, t becomes t₁
+abbrev pub ElementsFill : Product → List ℕ → ℕ → ℕ → ℕ → ℕ → ℕ → List ℕ → List ℕ → Read → Type 0
+ElementsFill p s at base i n k t t₁ r =
+    (xs : List Element) (u : List ℕ) → Row (placed p) s 0 at xs u → length xs ≡ n → k + length (elementRows p i (base + at) xs) ≤ length t
+    → (r ≡ Got n (at + elementsBytes p xs)) × (t₁ ≡ put t k (elementRows p i (base + at) xs))
 
 -- of them j are stored, and the next stands at q
-abbrev pub ElementsTurn : Product → List ℕ → ℕ → ℕ → ℕ → ℕ → List ℕ → ℕ → ℕ → List ℕ → Type 0
-ElementsTurn p s at i n k t j q t₁ =
-    (u : List ℕ) (stop : ℕ) (a : Ahead (placed p) s u n stop 0 at) → k + length (rowsOf (placed p) (elementRow p i) 0 at (a .ys)) ≤ length t
-    → (b : Ahead (placed p) s u n stop j q)
-    × Filling (rowsOf (placed p) (elementRow p i) j q (b .ys)) (put t k (rowsOf (placed p) (elementRow p i) 0 at (a .ys))) (length t) t₁ (k + elementWidth * j)
+abbrev pub ElementsTurn : Product → List ℕ → ℕ → ℕ → ℕ → ℕ → ℕ → List ℕ → ℕ → ℕ → List ℕ → Type 0
+ElementsTurn p s at base i n k t j q t₁ =
+    (xs : List Element) (u : List ℕ) → Row (placed p) s 0 at xs u → length xs ≡ n → k + length (elementRows p i (base + at) xs) ≤ length t
+    → (q ≡ startIn (placed p) at xs j)
+    × Filling (rowsOf (placed p) (elementRow p i) j (base + q) (drop j xs)) (put t k (elementRows p i (base + at) xs)) (length t) t₁ (k + elementWidth * j)
 
-module _ (p : Product) (s : List ℕ) (at i n k : ℕ) (t : List ℕ) where
-  pub elements-start : ElementsTurn p s at i n k t 0 at t
-  elements-start u stop a h = (a, record { long = refl; room = omega arith; rest = ap (λ (m : ℕ). put t m (rowsOf (placed p) (elementRow p i) 0 at (a .ys))) (add-zero k) })
+module _ (p : Product) (s : List ℕ) (at base i n k : ℕ) (t : List ℕ) where
+  pub elements-start : ElementsTurn p s at base i n k t 0 at t
+  elements-start xs u w m h = (start-first (placed p) at xs, record { long = refl; room = omega arith; rest = ap (λ (z : ℕ). put t z (elementRows p i (base + at) xs)) (add-zero k) })
 
-  module _ (j q : ℕ) (t₁ : List ℕ) (e : ElementsTurn p s at i n k t j q t₁) where
-    pub elements-done : n ≤ j → ElementsFill p s at i n k t t₁ (Got n q)
-    elements-done l u stop a h =
-        let b = e u stop a h in
-        (ap (Got n) (ahead-done (b .0) l .1), filling-done (b .1) (rows-done (placed p) (elementRow p i) (b .0) l))
+  module _ (j q : ℕ) (t₁ : List ℕ) (e : ElementsTurn p s at base i n k t j q t₁) where
+    pub elements-done : n ≤ j → ElementsFill p s at base i n k t t₁ (Got n q)
+    elements-done l xs u w m h =
+        let b = e xs u w m h in
+        (ap (Got n) (b .0 ∙ start-end (placed p) at j xs (omega arith)), filling-done (b .1) (rows-done (placed p) (elementRow p i) j (base + q) xs (omega arith)))
 
     module _ {r : Read} (l : j < n) (g : r ≡ seen named (placed p j) s q) where
-      pub elements-stop : {c : Fault} {o : ℕ} → r ≡ No c o → ElementsFill p s at i n k t t₁ r
-      elements-stop f u stop a h = back-no named (placed p j) s q (next (e u stop a h .0) l .stands) g f
+      pub elements-stop : {c : Fault} {o : ℕ} → r ≡ No c o → ElementsFill p s at base i n k t t₁ r
+      elements-stop f xs u w m h = back-no named (placed p j) s q (nth (placed p) s at j q xs u (e xs u w m h .0) w (omega arith) .stands) g f
 
-      pub elements-fill : {v o d : ℕ} {t₂ : List ℕ} → r ≡ Got v o → d ≡ dataAt j q → (k + elementWidth * j + 4 ≤ length t₁ → t₂ ≡ put t₁ (k + elementWidth * j) (v ∷ i ∷ d ∷ o ∷ []))
-          → ElementsTurn p s at i n k t (j + 1) o t₂
-      elements-fill {v} {o} {d} {t₂} f w z u stop a h =
-          let b = e u stop a h in
-          let x = next (b .0) l in
-          let m = back-got named (placed p j) s q (x .stands) g f in
-          let y = rows-next (placed p) (elementRow p i) (b .0) x in
-          let room : k + elementWidth * j + 4 ≤ length t₁ = filling-room (elementRow p i j q (x .x)) _ (b .1) y in
-          let st : t₂ ≡ put t₁ (k + elementWidth * j) (elementRow p i j q (x .x)) = put-row t₁ _ (z room) (m .0) refl w (m .1) in
-          rw (m .1) (x .rest, filling-go (elementRow p i j q (x .x)) _ (b .1) y st (omega arith))
+      pub elements-fill : {v o d : ℕ} {t₂ : List ℕ} → r ≡ Got v o → d ≡ dataAt j (base + q) → (k + elementWidth * j + 4 ≤ length t₁ → t₂ ≡ put t₁ (k + elementWidth * j) (v ∷ i ∷ d ∷ (base + o) ∷ []))
+          → ElementsTurn p s at base i n k t (j + 1) o t₂
+      elements-fill {v} {o} {d} {t₂} f starts z xs u w m h =
+          let b = e xs u w m h in
+          let x = nth (placed p) s at j q xs u (b .0) w (omega arith) in
+          let y = back-got named (placed p j) s q (x .stands) g f in
+          let ends : base + o ≡ base + q + length (placed p j .write (x .x)) = omega (arith, y .1) in
+          let rows = rows-next (placed p) (elementRow p i) j (base + q) xs (x .whole) in
+          let room : k + elementWidth * j + 4 ≤ length t₁ = filling-room (elementRow p i j (base + q) (x .x)) _ (b .1) rows in
+          let st : t₂ ≡ put t₁ (k + elementWidth * j) (elementRow p i j (base + q) (x .x)) = put-row t₁ _ (z room) (y .0) refl starts ends in
+          (omega (arith, y .1, b .0, start-more (placed p) at j xs (x .ys) (x .x) (x .whole)), rw ends (filling-go (elementRow p i j (base + q) (x .x)) _ (b .1) rows st (omega arith)))
 
--- a number of elements below 2 ^ 16 and a place, or a refusal
+-- a rule's start, its number and the place of its elements' rows are small
+abbrev pub Small : Entry → Type 0
+Small e = (e .start ≤ 60000) × ((e .i ≤ 256) × (e .k < 2 ^ 30))
+
+-- a number of elements below 2 ^ 16 and a place, or a refusal's place
 unfoldable pub Under : ℕ → Read → Type 0
 Under b (Got n m) = (n < 2 ^ 16) × (m ≤ b)
-Under b (No c q) = Unit {0}
+Under b (No c q) = q ≤ b
 
 pub under-is : {b n m : ℕ} → n < 2 ^ 16 → m ≤ b → Under b (Got n m)
 unfolding Under
@@ -141,9 +152,13 @@ pub under-got : {b n m : ℕ} {r : Read} → Under b r → r ≡ Got n m → (n 
 unfolding Under
 under-got h e = rw e at h
 
-pub under-no : (b : ℕ) {q : ℕ} {c : Fault} {r : Read} → r ≡ No c q → Under b r
+pub under-no : {b q : ℕ} {c : Fault} {r : Read} → r ≡ No c q → q ≤ b → Under b r
 unfolding Under
-under-no b e = rw e tt
+under-no e h = rw e h
+
+pub under-off : {b q : ℕ} {c : Fault} {r : Read} → Under b r → r ≡ No c q → q ≤ b
+unfolding Under
+under-off h e = rw e at h
 
 -- an identifier has 32 bits
 pub identifier-small : (p : Product) (j : ℕ) (s : List ℕ) (at : ℕ) {r : Read} {v m : ℕ} → Bytes s → r ≡ seen named (placed p j) s at → r ≡ Got v m → v < 2 ^ 32
@@ -161,4 +176,4 @@ two-small s at bs e h = let o = seen-fits itself (number 2) s at bs e h in rw (o
 pub under-up : {a b : ℕ} (r : Read) → Under a r → a ≤ b → Under b r
 unfolding Under
 under-up (Got n m) h l = (h .0, omega (arith, h .1))
-under-up (No c q) h l = tt
+under-up (No c q) h l = omega arith

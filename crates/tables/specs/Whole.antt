@@ -1,21 +1,22 @@
 -- The whole read: what the first pass tells of the second, and that the promise leaves one outcome.
-use Prim.Native.Nat.{ℕ, _*_, _/_, _<_, _≤_}
+use Prim.Native.Nat.{ℕ, _+_, _*_, _/_, _<_, _≤_}
 use native.Mathlib.Omega.{arith}
 use mathlib.Core.Path.{_≡_, refl, sym, ap, _∙_}
 use mathlib.Core.Bool.{Bool, true, false}
 use mathlib.Core.List.{List, []}
-use lib.ListN.{length, length-append}
+use lib.ListN.{length}
 use lib.Dec.{leb}
 use borrow.Author.Tests.{le-leb, lt-leb, leb-true}
 use Rattle.format.specs.declared.Fault.{Fault}
 use Rattle.format.specs.declared.Fault.the-variants as Fault
 use Rattle.format.specs.declared.Outcome.{Outcome}
-use Rattle.format.specs.declared.Outcome.the-variants.{Done, No}
+use Rattle.format.specs.declared.Outcome.the-variants.{Done, No, Given}
+use Rattle.format.specs.declared.Read.{Read}
+use Rattle.format.specs.declared.Read.the-variants as Read
 use Rattle.format.specs.Format.{Answer, got, refused, Bytes, pick}
-use Rattle.format.specs.ReadWrite.{pairWrite, eachWrite}
-use Rattle.format.specs.Combinators.{pair, via, each, counted}
+use Rattle.format.specs.ReadWrite.{eachWrite}
 use Rattle.format.specs.Rows.{total}
-use Rattle.format.specs.Back.{Ahead}
+use Rattle.format.specs.Seen.{unlike}
 use Rattle.kind.specs.declared.Product.{Product}
 use Rattle.kind.specs.declared.Edition.{Edition}
 use Rattle.kind.specs.declared.Edition.the-variants as Edition
@@ -23,16 +24,20 @@ use Rattle.kind.specs.Kinds.{editionOf}
 use Rattle.rule.specs.Rule.{Rule, rule, elementsIn}
 use Rattle.deck.specs.declared.Scan.{Scan}
 use Rattle.deck.specs.declared.Scan.the-variants as Scan
-use Rattle.deck.specs.Deck.{header, header-length, deck, deck-row, readAs, readBy, readDeck, scanned, Whole, read-writes-back, deck-small}
-use Rattle.tables.specs.Tables.{ruleWidth, elementWidth, ruleRows, allElementRows, inTables, tabled, filled, rulesLeft, elementsLeft, readSays, rulesAfter, elementsAfter}
+use Rattle.deck.specs.Deck.{deck-row, readAs, readBy, readDeck, scanned, read-writes-back, deck-small}
+use Rattle.tables.specs.Tables.{ruleWidth, elementWidth, ruleRows, allElementRows, inTables, tabled, rulesLeft, elementsLeft, readSays, rulesAfter, elementsAfter}
 use Rattle.buffer.specs.Laid.{put}
 use Rattle.tables.specs.Fill.{put-front}
-use Rattle.tables.specs.Parts.{RulesFill, Fills, rule-rows-long, all-rows-long}
+use Rattle.tables.specs.Parts.{RulesFill, rule-rows-long, all-rows-long}
 
--- behind its header stand the rules, to the last byte
-pub deck-ahead : (p : Product) (s : List ℕ) (rs : List Rule) (m : ℕ) → Whole p s rs m → (a : Ahead (rule p) s [] (length rs) (length s) 0 7) × (a .ys ≡ rs)
-unfolding deck counted via pair pairWrite each
-deck-ahead p s rs m w = (record { ys = rs; many = omega arith; row = deck-row p s rs (w .fit) (w .is); ends = omega (arith, header-length (length rs), ap length (w .is), length-append (header .write (length rs)) (eachWrite (rule p) 0 rs)) }, refl)
+-- a refusal of the pass, and one of the second pass, as the answer of a read
+abbrev pub scanAnswer : Scan → Outcome
+scanAnswer (Scan.Is n m) = Done n
+scanAnswer (Scan.No c q) = No c q
+
+abbrev pub readAnswer : Read → Outcome
+readAnswer (Read.Got n m) = Done n
+readAnswer (Read.No c q) = No c q
 
 -- what the first pass tells
 record Tells (p : Product) (s : List ℕ) (n m : ℕ) : Type 0 where
@@ -81,8 +86,9 @@ module _ (edition : ℕ) (s : List ℕ) {d : Edition} (f : d ≡ editionOf editi
           → Promise (editionOf edition) s t t₁ e e₁ r
       answered-as w o = rw (← f, h, w) o
 
-      pub read-refused : {k : Fault} {q : ℕ} → c ≡ Scan.No k q → Promise (editionOf edition) s t t e e (No k q)
-      read-refused {k} {q} i = go (readAs p s) refl (sym i ∙ scan-as)
+      -- it was handed on
+      pub read-refused : {k : Fault} {q : ℕ} {r : Outcome} → c ≡ Scan.No k q → r ≡ scanAnswer c → Promise (editionOf edition) s t t e e r
+      read-refused {k} {q} i y = rw (y ∙ ap scanAnswer i) (go (readAs p s) refl (sym i ∙ scan-as))
         where
           go : (a : Answer (List Rule)) → readAs p s ≡ a → Scan.No k q ≡ scanned a → Promise (editionOf edition) s t t e e (No k q)
           go (got rs m) w z = absurd (let x : _≡_ {A = ℕ} 0 1 = cc in omega arith)
@@ -91,34 +97,48 @@ module _ (edition : ℕ) (s : List ℕ) {d : Edition} (f : d ≡ editionOf editi
               let eq : q ≡ q₁ = cc in
               answered-as w (rw (ek, eq) (refl, (refl, refl)))
 
-      -- o is whether there is room
-      pub read-room : {n m : ℕ} {o : Outcome} {t₁ e₁ : List ℕ} → c ≡ Scan.Is n m → Bytes s → o ≡ inTables n m (length t) (length e) → Fills p s n o t t₁ e e₁ → Promise (editionOf edition) s t t₁ e e₁ o
-      unfolding inTables pick
-      read-room {n} {m} {o} {t₁} {e₁} i bs z x = go (leb (ruleWidth * n) (length t)) (leb (elementWidth * m) (length e)) refl refl z
-        where
-          a : Tells p s n m
-          a = found i
+      module _ {n m : ℕ} (i : c ≡ Scan.Is n m) where
+        a : Tells p s n m
+        a = found i
 
+        -- o is whether there is room
+        module _ {o : Outcome} (z : o ≡ inTables n m (length t) (length e)) where
           answer : o ≡ tabled (length t) (length e) (got (a .rs) (a .ends))
           answer = rw (← a .rules, ← a .elements) z
 
-          none : {k : Fault} {q : ℕ} → o ≡ No k q → Promise (editionOf edition) s t t₁ e e₁ o
-          none h = let y = rw h at x in answered-as (a .is) (rw (← answer) (refl, (rw h (y .0), rw h (y .1))))
+          -- where there is none
+          pub read-full : ((v : ℕ) → o ≡ Done v → ⊥) → Promise (editionOf edition) s t t e e o
+          read-full w = answered-as (a .is) (rw (← answer) (go o w))
+            where
+              go : (x : Outcome) → ((v : ℕ) → x ≡ Done v → ⊥) → (x ≡ x) × ((t ≡ rulesLeft p x (got (a .rs) (a .ends)) t) × (e ≡ elementsLeft p x (got (a .rs) (a .ends)) e))
+              go (Done v) none = absurd (none v refl)
+              go (No k q) none = (refl, (refl, refl))
+              go (Given k q) none = (refl, (refl, refl))
 
-          done : ruleWidth * n ≤ length t → elementWidth * m ≤ length e → o ≡ Done n → Promise (editionOf edition) s t t₁ e e₁ o
-          done l k h =
-              let rs = a .rs in
-              let b = deck-ahead p s rs (a .ends) (read-writes-back p s rs (a .ends) bs (a .is)) in
-              let fills : RulesFill p s (length rs) t t₁ e e₁ = rw (a .rules) at (rw h at x) in
-              let v = fills [] (length s) (b .0) (rw (b .1) (omega (arith, rule-rows-long p 7 rs, a .rules))) (rw (b .1) (omega (arith, all-rows-long p 7 rs, a .elements))) in
-              let vt : t₁ ≡ filled (ruleRows p 0 7 rs) t = v .0 ∙ ap (λ (w : List Rule). put t 0 (ruleRows p 0 7 w)) (b .1) ∙ put-front t (ruleRows p 0 7 rs) in
-              let ve : e₁ ≡ filled (allElementRows p 0 7 rs) e = v .1 ∙ ap (λ (w : List Rule). put e 0 (allElementRows p 0 7 w)) (b .1) ∙ put-front e (allElementRows p 0 7 rs) in
-              answered-as (a .is) (rw (← answer) (refl, (rw h vt, rw h ve)))
+          -- where there is some
+          module _ {v : ℕ} (done : o ≡ Done v) where
+            fits : (ruleWidth * n ≤ length t) × (elementWidth * m ≤ length e)
+            unfolding inTables pick
+            fits = go (leb (ruleWidth * n) (length t)) (leb (elementWidth * m) (length e)) refl refl (sym done ∙ z)
+              where
+                go : (x y : Bool) → leb (ruleWidth * n) (length t) ≡ x → leb (elementWidth * m) (length e) ≡ y → Done v ≡ pick x (pick y (Done n) (No Fault.Table 1)) (No Fault.Table 0) → (ruleWidth * n ≤ length t) × (elementWidth * m ≤ length e)
+                go true true f g w = (leb-true _ _ f, leb-true _ _ g)
+                go true false f g w = absurd (let x : _≡_ {A = ℕ} 0 1 = cc in omega arith)
+                go false y f g w = absurd (let x : _≡_ {A = ℕ} 0 1 = cc in omega arith)
 
-          go : (x y : Bool) → leb (ruleWidth * n) (length t) ≡ x → leb (elementWidth * m) (length e) ≡ y → o ≡ pick x (pick y (Done n) (No Fault.Table 1)) (No Fault.Table 0) → Promise (editionOf edition) s t t₁ e e₁ o
-          go true true f g h = done (leb-true _ _ f) (leb-true _ _ g) h
-          go true false f g h = none h
-          go false y f g h = none h
+            -- r is what the second pass answers
+            module _ (bs : Bytes s) {t₁ e₁ : List ℕ} {r : Read} (x : RulesFill p s n t t₁ e e₁ r) where
+              all : (r ≡ Read.Got n (7 + length (eachWrite (rule p) 0 (a .rs)))) × ((t₁ ≡ put t 0 (ruleRows p 0 7 (a .rs))) × (e₁ ≡ put e 0 (allElementRows p 0 7 (a .rs))))
+              all =
+                  let w = read-writes-back p s (a .rs) (a .ends) bs (a .is) in
+                  x (a .rs) [] (deck-row p s (a .rs) (w .fit) (w .is)) (sym (a .rules)) (omega (arith, fits .0, rule-rows-long p 7 (a .rs), a .rules)) (omega (arith, fits .1, all-rows-long p 7 (a .rs), a .elements))
+
+              -- it refuses nothing
+              pub read-unlike : {k : Fault} {q : ℕ} {y : Outcome} → r ≡ Read.No k q → Promise (editionOf edition) s t t₁ e e₁ y
+              read-unlike w = unlike (all .0) w
+
+              pub read-done : Promise (editionOf edition) s t t₁ e e₁ o
+              read-done = answered-as (a .is) (rw (← answer) (refl, (rw done (all .1 .0 ∙ put-front t (ruleRows p 0 7 (a .rs))), rw done (all .1 .1 ∙ put-front e (allElementRows p 0 7 (a .rs))))))
 
 -- as the code judges the room
 module _ (n m rules elements : ℕ) where

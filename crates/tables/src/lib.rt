@@ -13,8 +13,9 @@ ghost use Rattle.kind.specs.Kinds.{editionOf};
 ghost use Rattle.rule.specs.Places.{dataAt};
 ghost use Rattle.tables.specs.Tables.{inTables, readSays, rulesAfter, elementsAfter};
 ghost use Rattle.buffer.specs.Laid.{put};
-ghost use Rattle.tables.specs.Fill.{Under, ElementsFill};
-ghost use Rattle.tables.specs.Parts.{BodyFill, RuleFill, RulesFill, Fills};
+ghost use Rattle.tables.specs.Fill.{Small, Under, ElementsFill};
+ghost use Rattle.tables.specs.Parts.{BodyFill, PartFill, RuleFill, RulesFill};
+ghost use Rattle.tables.specs.Whole.{scanAnswer, readAnswer};
 
 // The numbers of a row.
 const RULE_WIDTH: usize = 4;
@@ -40,6 +41,13 @@ fn put4(t: &mut [u32], at: usize, a: u32, b: u32, c: u32, d: u32)
 
 // What follows goes over a deck that was accepted; its bounds only keep sums from wrapping.
 
+// A rule as its rows go by it: where it starts in the deck, its number, and where its elements' rows start in their table.
+struct Entry {
+    start: usize,
+    i: u64,
+    k: usize,
+}
+
 // Where the data of an element start that stands at place j of its rule.
 fn data_start(j: u64, at: usize) -> usize
     requires { ⌜ at < 2 ^ 31 ⌝ }
@@ -51,38 +59,36 @@ fn data_start(j: u64, at: usize) -> usize
     at + 6
 }
 
-// n elements of rule i, with their rows from k on; the value is n.
+// n elements of a rule, in the rule's part, and their rows; the value is n.
 fn fill_elements(
-    s: &[u8],
+    rest: &[u8],
     at: usize,
     product: Product,
-    i: u64,
     n: u64,
     t: &mut [u32],
-    k: usize,
+    rule: Entry,
 ) -> Read
-    requires { ⌜ length (now s) ≤ 60000 ⌝ }
+    requires { ⌜ length (now rest) ≤ 60000 ⌝ }
     requires { ⌜ at < 2 ^ 30 ⌝ }
-    requires { ⌜ i ≤ 256 ⌝ }
     requires { ⌜ n < 2 ^ 16 ⌝ }
-    requires { ⌜ k < 2 ^ 30 ⌝ }
-    ensures { λ r. ⌜ ElementsFill product (now (s .entry)) at i n k (now (t .entry)) (now (t .exit)) r × Under (at + 60000) r ⌝ }
+    requires { ⌜ Small rule ⌝ }
+    ensures { λ r. ⌜ ElementsFill product (now (rest .entry)) at (rule .start) (rule .i) n (rule .k) (now (t .entry)) (now (t .exit)) r × Under (at + 60000) r ⌝ }
 {
     let mut j = 0;
     let mut p = at;
     while j < n {
-        let r = rule::placed_at(s, p, product, j);
+        let r = rule::placed_at(rest, p, product, j);
         let Read::Got(id, q) = r else {
             return r;
         };
-        let d = data_start(j, p);
+        let d = data_start(j, rule.start + p);
         put4(
             t,
-            k + ELEMENT_WIDTH * (j as usize),
+            rule.k + ELEMENT_WIDTH * (j as usize),
             id as u32,
-            i as u32,
+            rule.i as u32,
             d as u32,
-            q as u32,
+            (rule.start + q) as u32,
         );
         p = q;
         j += 1;
@@ -90,26 +96,60 @@ fn fill_elements(
     Read::Got(n, p)
 }
 
-// The number of elements of rule i, its head and its elements, with their rows from k on; the value is their number.
-fn fill_body(s: &[u8], at: usize, product: Product, i: u64, t: &mut [u32], k: usize) -> Read
-    requires { ⌜ length (now s) ≤ 60000 ⌝ }
+// The number of a rule's elements, its head and its elements, in its part, and their rows; the value is their number.
+fn fill_body(rest: &[u8], at: usize, product: Product, t: &mut [u32], rule: Entry) -> Read
+    requires { ⌜ length (now rest) ≤ 60000 ⌝ }
     requires { ⌜ at < 2 ^ 29 ⌝ }
-    requires { ⌜ i ≤ 256 ⌝ }
-    requires { ⌜ k < 2 ^ 30 ⌝ }
-    ensures { λ r. ⌜ BodyFill product (now (s .entry)) at i k (now (t .entry)) (now (t .exit)) r × Under (at + 120000) r ⌝ }
+    requires { ⌜ Small rule ⌝ }
+    ensures { λ r. ⌜ BodyFill product (now (rest .entry)) at (rule .start) (rule .i) (rule .k) (now (t .entry)) (now (t .exit)) r × Under (at + 120000) r ⌝ }
 {
-    let c = wire::u16_at(s, at);
+    let c = wire::u16_at(rest, at);
     let Read::Got(n, p) = c else {
         return c;
     };
-    let h = rule::head_at(s, p, i);
+    let h = rule::head_at(rest, p, rule.i);
     let Read::Got(_, q) = h else {
         return h;
     };
-    fill_elements(s, q, product, i, n, t, k)
+    fill_elements(rest, q, product, n, t, rule)
 }
 
-// Rule i: its row, and the rows of its elements from k on; the value is their number.
+// A rule at the start of its part: its row, and the rows of its elements; the value is their number.
+fn fill_part(
+    rest: &[u8],
+    product: Product,
+    rules: &mut [u32],
+    elements: &mut [u32],
+    rule: Entry,
+) -> Read
+    requires { ⌜ length (now rest) ≤ 60000 ⌝ }
+    requires { ⌜ Small rule ⌝ }
+    ensures { λ r. ⌜ PartFill product (now (rest .entry)) (rule .start) (rule .i) (rule .k) (now (rules .entry)) (now (rules .exit)) (now (elements .entry)) (now (elements .exit)) r × Under 200000 r ⌝ }
+{
+    let l = text::length_at(rest, 4);
+    let Read::Got(_, units) = l else {
+        return l;
+    };
+    let name = text::string_at(rest, 4);
+    let Read::Got(_, p) = name else {
+        return name;
+    };
+    let r = fill_body(rest, p + 24, product, elements, rule);
+    let Read::Got(n, end) = r else {
+        return r;
+    };
+    put4(
+        rules,
+        RULE_WIDTH * (rule.i as usize),
+        rule.start as u32,
+        (rule.start + end) as u32,
+        (rule.start + units) as u32,
+        n as u32,
+    );
+    r
+}
+
+// Rule i at a place, from the part of the deck that starts there, with the rows of its elements from k on.
 fn fill_rule(
     s: &[u8],
     at: usize,
@@ -125,34 +165,23 @@ fn fill_rule(
     requires { ⌜ k < 2 ^ 30 ⌝ }
     ensures { λ r. ⌜ RuleFill product (now (s .entry)) at i k (now (rules .entry)) (now (rules .exit)) (now (elements .entry)) (now (elements .exit)) r × Under (at + 200000) r ⌝ }
 {
-    let l = text::length_at(s, at + 4);
-    let Read::Got(_, units) = l else {
-        return l;
-    };
-    let name = text::string_at(s, at + 4);
-    let Read::Got(_, p) = name else {
-        return name;
-    };
-    let r = fill_body(s, p + 24, product, i, elements, k);
-    let Read::Got(n, end) = r else {
-        return r;
-    };
-    put4(
-        rules,
-        RULE_WIDTH * (i as usize),
-        at as u32,
-        end as u32,
-        units as u32,
-        n as u32,
-    );
-    r
+    if s.len() < at {
+        return Read::No(Fault::Cut, at);
+    }
+    let rest = &s[at..];
+    let rule = Entry { start: at, i, k };
+    let r = fill_part(rest, product, rules, elements, rule);
+    match r {
+        Read::Got(n, p) => Read::Got(n, at + p),
+        Read::No(c, p) => Read::No(c, at + p),
+    }
 }
 
-// The n rules of a deck.
-fn fill_rules(s: &[u8], product: Product, n: u64, rules: &mut [u32], elements: &mut [u32])
+// The n rules of a deck; the value is n.
+fn fill_rules(s: &[u8], product: Product, n: u64, rules: &mut [u32], elements: &mut [u32]) -> Read
     requires { ⌜ length (now s) ≤ 60000 ⌝ }
     requires { ⌜ n ≤ 256 ⌝ }
-    ensures { λ _. ⌜ RulesFill product (now (s .entry)) n (now (rules .entry)) (now (rules .exit)) (now (elements .entry)) (now (elements .exit)) ⌝ }
+    ensures { λ r. ⌜ RulesFill product (now (s .entry)) n (now (rules .entry)) (now (rules .exit)) (now (elements .entry)) (now (elements .exit)) r ⌝ }
 {
     let mut i = 0;
     let mut p: usize = 7;
@@ -160,12 +189,13 @@ fn fill_rules(s: &[u8], product: Product, n: u64, rules: &mut [u32], elements: &
     while i < n {
         let r = fill_rule(s, p, product, i, rules, elements, k);
         let Read::Got(m, q) = r else {
-            return;
+            return r;
         };
         k += ELEMENT_WIDTH * (m as usize);
         p = q;
         i += 1;
     }
+    Read::Got(n, p)
 }
 
 // Whether tables of so many numbers have room for n rules and m elements: the rule table first.
@@ -181,16 +211,23 @@ fn room(n: u64, m: u64, rules: usize, elements: usize) -> Outcome
     Outcome::Done(n as usize)
 }
 
-// The n rules of a deck, where there is room for them; else nothing.
-fn fill(s: &[u8], product: Product, n: u64, o: Outcome, rules: &mut [u32], elements: &mut [u32])
-    requires { ⌜ length (now s) ≤ 60000 ⌝ }
-    requires { ⌜ n ≤ 256 ⌝ }
-    ensures { λ _. ⌜ Fills product (now (s .entry)) n o (now (rules .entry)) (now (rules .exit)) (now (elements .entry)) (now (elements .exit)) ⌝ }
+// What a pass over a deck tells, as an answer: its number of rules, or its refusal.
+fn scan_answer(scan: Scan) -> Outcome
+    ensures { λ r. ⌜ r ≡ scanAnswer scan ⌝ }
 {
-    match o {
-        Outcome::Done(_) => fill_rules(s, product, n, rules, elements),
-        Outcome::No(_, _) => {}
-        Outcome::Given(_, _) => {}
+    match scan {
+        Scan::Is(n, _) => Outcome::Done(n as usize),
+        Scan::No(c, p) => Outcome::No(c, p),
+    }
+}
+
+// What was read, as an answer: its value, or its refusal.
+fn read_answer(r: Read) -> Outcome
+    ensures { λ x. ⌜ x ≡ readAnswer r ⌝ }
+{
+    match r {
+        Read::Got(n, _) => Outcome::Done(n as usize),
+        Read::No(c, p) => Outcome::No(c, p),
     }
 }
 
@@ -203,12 +240,16 @@ pub fn read(edition: u64, s: &[u8], rules: &mut [u32], elements: &mut [u32]) -> 
         return Outcome::No(Fault::Edition, 0);
     };
     let scan = deck::pass(edition, s);
-    match scan {
-        Scan::No(c, p) => Outcome::No(c, p),
-        Scan::Is(n, m) => {
-            let o = room(n, m, rules.len(), elements.len());
-            fill(s, product, n, o, rules, elements);
-            o
-        }
-    }
+    let Scan::Is(n, m) = scan else {
+        return scan_answer(scan);
+    };
+    let o = room(n, m, rules.len(), elements.len());
+    let Outcome::Done(_) = o else {
+        return o;
+    };
+    let r = fill_rules(s, product, n, rules, elements);
+    let Read::Got(_, _) = r else {
+        return read_answer(r);
+    };
+    o
 }

@@ -3,7 +3,7 @@ use native.Mathlib.Omega.{arith}
 use mathlib.Core.Path.{_≡_, _∙_}
 use lib.ListN.{length}
 use Rattle.format.specs.Format.{bytes-all}
-use Rattle.format.specs.Back.{seen-ends}
+use Rattle.format.specs.Back.{seen-ends, seen-stops}
 use Rattle.element.specs.Element.{named}
 use Rattle.tables.specs.Fill.{ElementsTurn, elements-start, elements-done, elements-stop, elements-fill, under-no, under-is, identifier-small}
 use borrow.Author.Needs.{needs}
@@ -11,31 +11,49 @@ use Rattle.tables.proofs.fill_elements.Statement.{statement}
 use Rattle.tables.proofs.fill_elements.Tie as tie
 
 abbrev Inv-loop : tie.InvT-loop
-Inv-loop s at product i n t₀ k j₀ p₀ t j p = ElementsTurn product s at i n k t₀ j p t × ((length t ≡ length t₀) × ((p ≤ at + (length s - at)) × (j ≤ n)))
+Inv-loop rest at product n t₀ rule j₀ p₀ t j p = ElementsTurn product rest at (rule .start) (rule .i) n (rule .k) t₀ j p t × ((length t ≡ length t₀) × ((p ≤ at + (length rest - at)) × (j ≤ n)))
 
 abbrev μ-loop : tie.MeasureT-loop
-μ-loop s at product i n t₀ k j₀ p₀ t j p = n - j
+μ-loop rest at product n t₀ rule j₀ p₀ t j p = n - j
 
 loop-holds : tie.Need-loop-holds Inv-loop μ-loop
-loop-holds c = (elements-start _ _ _ _ _ _ _, (search needs, (omega arith, omega arith)))
+loop-holds c = (elements-start _ _ _ _ _ _ _ _, (search needs, (omega arith, omega arith)))
 
 returns : tie.Need-returns Inv-loop μ-loop
-returns c = (elements-stop _ _ _ _ _ _ _ _ _ _ (c .before .before .before .before .loop .inv .0) (c .before .before .before .loop-test .taken) (c .before .before .placed-at .ensures) (c .enum-told .given .1), under-no _ (c .enum-told .given .1))
+returns c = (elements-stop _ _ _ _ _ _ _ _ _ _ _ (c .before .before .before .before .loop .inv .0) (c .before .before .before .loop-test .taken) (c .before .before .placed-at .ensures) (c .enum-told .given .1), under-no (c .enum-told .given .1) (omega (arith, seen-stops named _ _ _ (c .before .before .placed-at .ensures) (c .enum-told .given .1))))
+
+add-data-start : tie.Need-add-data-start Inv-loop μ-loop
+add-data-start c = omega arith
+
+data-start-requires : tie.Need-data-start-requires Inv-loop μ-loop
+data-start-requires c κs = omega arith
+
+mul-put4 : tie.Need-mul-put4 Inv-loop μ-loop
+mul-put4 c = search needs
+
+add-put4 : tie.Need-add-put4 Inv-loop μ-loop
+add-put4 c = omega arith
 
 cast-put4 : tie.Need-cast-put4 Inv-loop μ-loop
-cast-put4 c = record { fits = identifier-small _ _ _ _ (bytes-all _ (c .before .before .before .before .before .before .before .before .before .shared-slice-known .given)) (c .before .before .before .before .before .placed-at .ensures) (c .before .before .before .r .given .1) }
+cast-put4 c = record { fits = identifier-small _ _ _ _ (bytes-all _ (c .before .before .before .before .before .before .before .before .before .before .before .shared-slice-known .given)) (c .before .before .before .before .before .before .before .placed-at .ensures) (c .before .before .before .before .before .r .given .1) }
+
+cast-put4-2 : tie.Need-cast-put4-2 Inv-loop μ-loop
+cast-put4-2 c = omega arith
 
 cast-put4-3 : tie.Need-cast-put4-3 Inv-loop μ-loop
 cast-put4-3 c = omega arith
 
+add-put4-2 : tie.Need-add-put4-2 Inv-loop μ-loop
+add-put4-2 c = omega (arith, seen-ends named _ _ _ (c .before .before .before .before .before .before .before .before .before .placed-at .ensures) (c .before .before .before .before .before .before .before .r .given .1))
+
 cast-put4-4 : tie.Need-cast-put4-4 Inv-loop μ-loop
-cast-put4-4 c = omega (arith, seen-ends named _ _ _ (c .before .before .before .before .before .placed-at .ensures) (c .before .before .before .r .given .1))
+cast-put4-4 c = omega (arith, seen-ends named _ _ _ (c .before .before .before .before .before .before .before .before .before .placed-at .ensures) (c .before .before .before .before .before .before .before .r .given .1))
 
 loop-again : tie.Need-loop-again Inv-loop μ-loop
-loop-again c = (elements-fill _ _ _ _ _ _ _ _ _ _ (c .before .before .before .before .before .before .before .before .before .before .loop .inv .0) (c .before .before .before .before .before .before .before .before .before .loop-test .taken) (c .before .before .before .before .before .before .before .before .placed-at .ensures) (c .before .before .before .before .before .before .r .given .1) (c .before .before .before .before .data-start .ensures .0) (c .before .before .put4 .ensures), (c .before .before .put4 .kept .0 ∙ c .before .before .before .before .before .before .before .before .before .before .loop .inv .1 .0, (omega (arith, seen-ends named _ _ _ (c .before .before .before .before .before .before .before .before .placed-at .ensures) (c .before .before .before .before .before .before .r .given .1)), omega arith)))
+loop-again c = (elements-fill _ _ _ _ _ _ _ _ _ _ _ (c .before .before .before .before .before .before .before .before .before .before .before .before .before .before .loop .inv .0) (c .before .before .before .before .before .before .before .before .before .before .before .before .before .loop-test .taken) (c .before .before .before .before .before .before .before .before .before .before .before .before .placed-at .ensures) (c .before .before .before .before .before .before .before .before .before .before .r .given .1) (c .before .before .before .before .before .before .before .data-start .ensures .0) (c .before .before .put4 .ensures), (c .before .before .put4 .kept .0 ∙ c .before .before .before .before .before .before .before .before .before .before .before .before .before .before .loop .inv .1 .0, (omega (arith, seen-ends named _ _ _ (c .before .before .before .before .before .before .before .before .before .before .before .before .placed-at .ensures) (c .before .before .before .before .before .before .before .before .before .before .r .given .1)), omega arith)))
 
 returns-2 : tie.Need-returns-2 Inv-loop μ-loop
-returns-2 c = (elements-done _ _ _ _ _ _ _ _ _ _ (c .before .loop .inv .0) (c .loop-test .left), under-is (search needs) (omega arith))
+returns-2 c = (elements-done _ _ _ _ _ _ _ _ _ _ _ (c .before .loop .inv .0) (c .loop-test .left), under-is (search needs) (omega arith))
 
 pub fill-elements-spec : {M : Type 1} → statement M
 fill-elements-spec =
@@ -49,12 +67,14 @@ fill-elements-spec =
     (λ c. search needs)
     (λ c. search needs)
     returns
-    (λ c κs. search needs)
-    (λ c. search needs)
-    (λ c. search needs)
+    add-data-start
+    data-start-requires
+    mul-put4
+    add-put4
     cast-put4
-    (λ c. search needs)
+    cast-put4-2
     cast-put4-3
+    add-put4-2
     cast-put4-4
     (λ c κs. search needs)
     (λ c. search needs)
