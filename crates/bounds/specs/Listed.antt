@@ -1,4 +1,5 @@
--- Every refusal is one of document 01's table, "Numbers a refusal gives": by a number that its call may give, and at a place that its row has.
+-- Every refusal is one of document 01's table, "Numbers a refusal gives": by a number that its call may give, at the place that its row has.
+-- Of a place that is a field's (3 and 6 to 13), only that it is at most 60,000.
 use Prim.Native.Nat.{ℕ, _+_, _≤_}
 use mathlib.Core.Path.{_≡_, refl}
 use mathlib.Core.Bool.{Bool, true, false, _&&_, _||_}
