@@ -63,7 +63,8 @@ module _ {A : Type 0} (P : Promise A) (next : ℕ → A → ℕ) where
   abbrev pub Steps : Type 0
   Steps = (edition n : ℕ) (e : Edit) (d : List ℕ) (r : A) (d′ : List ℕ) → P edition n e d r d′ → Handed e × ((d′, next n r) ≡ step (edition, e) (d, n))
 
-  pub ran-is : Steps → (cs : List Call) (b b′ : Buffer) → Ran cs b b′ → Every (λ c. Handed (c .1)) cs × (b′ ≡ run cs b)
+module _ {A : Type 0} (P : Promise A) (next : ℕ → A → ℕ) where
+  pub ran-is : Steps P next → (cs : List Call) (b b′ : Buffer) → Ran P next cs b b′ → Every (λ c. Handed (c .1)) cs × (b′ ≡ run cs b)
   unfolding Ran run Every
   ran-is f [] b b′ h = (tt, h)
   ran-is f (c ∷ cs) b b′ h =
