@@ -8,13 +8,13 @@ returns : tie.Need-returns
 returns c = read-none _ _ (c .before .before .edition-of .ensures) _ _ (c .enum-told .given .1)
 
 fill-requires : tie.Need-fill-requires
-fill-requires c κs = read-small _ _ (c .before .before .before .before .before .before .before .before .before .before .edition-of .ensures) (c .before .before .before .before .before .before .before .before .e .given .1) (c .before .before .before .before .before .before .pass .ensures) (c .before .before .before .before .scan2 .given .1) (bytes-all _ (c .before .before .before .before .before .before .before .before .before .before .before .before .before .shared-slice-known .given))
+fill-requires c κs = read-small _ _ (c .before .before .before .before .before .before .before .before .before .before .edition-of .ensures) (c .before .before .before .before .before .before .before .before .e .given .1) (c .before .before .before .before .before .before .pass .ensures .0) (c .before .before .before .before .scan2 .given .1) (bytes-all _ (c .before .before .before .before .before .before .before .before .before .before .before .before .before .shared-slice-known .given))
 
 returns-2 : tie.Need-returns-2
-returns-2 c = read-refused _ _ (c .before .before .before .before .before .before .before .edition-of .ensures) (c .before .before .before .before .before .e .given .1) (c .before .before .before .pass .ensures) _ _ (c .before .scan .given .1)
+returns-2 c = read-refused _ _ (c .before .before .before .before .before .before .before .edition-of .ensures) (c .before .before .before .before .before .e .given .1) (c .before .before .before .pass .ensures .0) _ _ (c .before .scan .given .1)
 
 returns-3 : tie.Need-returns-3
-returns-3 c = read-room _ _ (c .before .before .before .before .before .before .before .before .before .before .before .before .before .before .before .edition-of .ensures) (c .before .before .before .before .before .before .before .before .before .before .before .before .before .e .given .1) (c .before .before .before .before .before .before .before .before .before .before .before .pass .ensures) _ _ (c .before .before .before .before .before .before .before .before .before .scan2 .given .1) (bytes-all _ (c .before .before .before .before .before .before .before .before .before .before .before .before .before .before .before .before .before .before .shared-slice-known .given)) (c .before .before .before .before .before .before .before .room .ensures) (c .before .before .before .before .fill .ensures)
+returns-3 c = read-room _ _ (c .before .before .before .before .before .before .before .before .before .before .before .before .before .before .before .edition-of .ensures) (c .before .before .before .before .before .before .before .before .before .before .before .before .before .e .given .1) (c .before .before .before .before .before .before .before .before .before .before .before .pass .ensures .0) _ _ (c .before .before .before .before .before .before .before .before .before .scan2 .given .1) (bytes-all _ (c .before .before .before .before .before .before .before .before .before .before .before .before .before .before .before .before .before .before .shared-slice-known .given)) (c .before .before .before .before .before .before .before .room .ensures) (c .before .before .before .before .fill .ensures)
 
 pub read-spec : {M : Type 1} → statement M
 read-spec =
