@@ -12,6 +12,7 @@ use Rattle.format.specs.declared.Outcome.{Outcome}
 use Rattle.format.specs.declared.Outcome.the-variants as Outcome
 use Rattle.format.specs.declared.Read.{Read}
 use Rattle.format.specs.declared.Read.the-variants as Read
+use Rattle.format.specs.Fault.{endSays, inGiven}
 use Rattle.format.specs.Format.{refused, Bytes}
 use Rattle.format.specs.ReadWrite.{spelt, eachWrite}
 use Rattle.format.specs.Laws.ReadWrite.{length-spelt, each-append}
@@ -190,11 +191,14 @@ module _ (p : Product) (n m a id : ℕ) (s d : List ℕ) where
       element-full l g f k t = on-last p n m a d (addElement id s) (withMore p id s) (λ rs. refl) _ _ l g (λ rs h y w v o a′. let b = back-got itself (number 2) d (e + 24) (count-stands n d h w o .1) f k in made-no n d (full _ _ (rw (b .0) at t)))
 
       module _ {t : Read} where
-        pub element-given : {x : Fault} {o : ℕ} → (m ≡ 0 → ⊥) → e ≡ nameEnd d a → z ≡ seen itself (number 2) d (e + 24) → z ≡ Read.Got c q → c < 64 → t ≡ told 0 none (given p id s) → t ≡ Read.No x o → MakesAs p lastOf n m a (addElement id s) d (Outcome.Given x o) d
+        pub element-given : {i r : Outcome} {x : Fault} {o : ℕ} → (m ≡ 0 → ⊥) → e ≡ nameEnd d a → z ≡ seen itself (number 2) d (e + 24) → z ≡ Read.Got c q → c < 64 → t ≡ told 0 none (given p id s) → t ≡ Read.No x o → i ≡ endSays t → r ≡ inGiven i → MakesAs p lastOf n m a (addElement id s) d r d
         unfolding edited
-        element-given {x} {o} l g f k j gt th =
+        element-given {x = x} {o = o} l g f k j gt th ei er =
             let u = told-no 0 none (given p id s) gt th in
-            on-last p n m a d (addElement id s) (withMore p id s) (λ rs. refl) _ _ l g (λ rs h y w v e′ a′. let b = back-got itself (number 2) d (e + 24) (count-stands n d h w e′ .1) f k in made-given n d (not-full _ _ (rw (b .0) at j) ∙ no-given _ (u .is ∙ ap (refused x) (sym (u .ends ∙ zero-add (u .o))))))
+            let c′ = er ∙ ap inGiven (ei ∙ ap endSays th) in
+            on-last p n m a d (addElement id s) (withMore p id s) (λ rs. refl) _ _ l g (λ rs h y w v e′ a′. let b = back-got itself (number 2) d (e + 24) (count-stands n d h w e′ .1) f k in
+            let v′ = made-given n d (not-full _ _ (rw (b .0) at j) ∙ no-given _ (u .is ∙ ap (refused x) (sym (u .ends ∙ zero-add (u .o))))) in
+            (c′ ∙ v′ .0, v′ .1))
 
         pub element-done : (r : Outcome) (d′ : List ℕ) {v o : ℕ} → (m ≡ 0 → ⊥) → e ≡ nameEnd d a → z ≡ seen itself (number 2) d (e + 24) → z ≡ Read.Got c q → c < 64 → Bytes s → t ≡ told 0 none (given p id s) → t ≡ Read.Got v o → Grows n e c id s d r d′ → MakesAs p lastOf n m a (addElement id s) d r d′
         unfolding Grows laterBytes edited

@@ -13,6 +13,7 @@ use Rattle.format.specs.declared.Outcome.{Outcome}
 use Rattle.format.specs.declared.Outcome.the-variants as Outcome
 use Rattle.format.specs.declared.Read.{Read}
 use Rattle.format.specs.declared.Read.the-variants as Read
+use Rattle.format.specs.Fault.{endSays, inGiven}
 use Rattle.format.specs.Format.{refused, Bytes}
 use Rattle.format.specs.ReadWrite.{spelt, bit, eachWrite}
 use Rattle.format.specs.Laws.ReadWrite.{length-spelt}
@@ -219,11 +220,12 @@ module _ (p : Product) (n m : ℕ) (name : List ℕ) (f : Fields) (id : ℕ) (s 
   rule-text a e rs o w em ea = made-no n d (no-text name _ e)
 
   module _ {t : Read} where
-    pub rule-given : (a : ℕ) {c : Fault} {q : ℕ} → isText name ≡ true → t ≡ told 0 none (given p id s) → t ≡ Read.No c q → MakesAs p lastOf n m a (addRule name f id s) d (Outcome.Given c q) d
+    pub rule-given : (a : ℕ) {i r : Outcome} {c : Fault} {q : ℕ} → isText name ≡ true → t ≡ told 0 none (given p id s) → t ≡ Read.No c q → i ≡ endSays t → r ≡ inGiven i → MakesAs p lastOf n m a (addRule name f id s) d r d
     unfolding MakesAs edited
-    rule-given a {c} e g h rs o w em ea =
+    rule-given a {c = c} e g h ei er rs o w em ea =
         let u = told-no 0 none (given p id s) g h in
-        made-given n d (if-text name _ e ∙ no-given _ (u .is ∙ ap (refused c) (sym (u .ends ∙ zero-add (u .o)))))
+        let y = made-given n d (if-text name _ e ∙ no-given _ (u .is ∙ ap (refused c) (sym (u .ends ∙ zero-add (u .o))))) in
+        (er ∙ ap inGiven (ei ∙ ap endSays h) ∙ y .0, y .1)
 
     pub rule-done : (r : Outcome) (d′ : List ℕ) (a : ℕ) {v l : ℕ} → Bytes name → Bytes s → isText name ≡ true → t ≡ told 0 none (given p id s) → t ≡ Read.Got v l → Extends n m name f id s d r d′ → MakesAs p lastOf n m a (addRule name f id s) d r d′
     unfolding MakesAs edited Extends

@@ -66,19 +66,22 @@ fn element_in(
     if m == 0 {
         return Outcome::No(Fault::Last, 0);
     }
-    let e = locate::name_end(buf, a);
+    let t = locate::name_end(buf, a);
+    let Read::Got(_, e) = t else {
+        return format::end_says(t);
+    };
     let z = wire::u16_at(buf, e + 24);
     let Read::Got(count, _) = z else {
-        return Outcome::No(Fault::Last, 0);
+        return format::end_says(z);
     };
     if 64 <= count {
         return Outcome::No(Fault::Full, 0);
     }
     let g = plan::given_element(product, identifier, s);
-    match g {
-        Read::No(c, p) => Outcome::Given(c, p),
-        Read::Got(_, _) => grow(buf, n, e, count, identifier, s),
-    }
+    let Read::Got(_, _) = g else {
+        return format::in_given(format::end_says(g));
+    };
+    grow(buf, n, e, count, identifier, s)
 }
 
 // An element is added to the last rule.
@@ -90,10 +93,10 @@ pub fn add_element(edition: u64, buf: &mut [u8], n: usize, identifier: u32, s: &
         return Outcome::No(Fault::Edition, 0);
     };
     let f = plan::find_last(edition, buf, n);
-    match f {
-        Spot::No(c, p) => Outcome::No(c, p),
-        Spot::Is(m, a, _) => element_in(buf, n, product, identifier, s, m, a),
-    }
+    let Spot::Is(m, a, _) = f else {
+        return locate::spot_says(f);
+    };
+    element_in(buf, n, product, identifier, s, m, a)
 }
 
 // Enabled and Unknown2 to Unknown5.
@@ -180,10 +183,10 @@ fn rule_in(
         return Outcome::No(Fault::Text, 0);
     }
     let x = plan::given_element(product, identifier, s);
-    match x {
-        Read::No(c, p) => Outcome::Given(c, p),
-        Read::Got(_, _) => extend(buf, n, m, name, fields, identifier, s),
-    }
+    let Read::Got(_, _) = x else {
+        return format::in_given(format::end_says(x));
+    };
+    extend(buf, n, m, name, fields, identifier, s)
 }
 
 // A rule is added at the end, with its name, its fixed fields and its first element.
@@ -203,8 +206,8 @@ pub fn add_rule(
         return Outcome::No(Fault::Edition, 0);
     };
     let f = plan::find_last(edition, buf, n);
-    match f {
-        Spot::No(c, p) => Outcome::No(c, p),
-        Spot::Is(m, _, _) => rule_in(buf, n, product, m, name, fields, identifier, s),
-    }
+    let Spot::Is(m, _, _) = f else {
+        return locate::spot_says(f);
+    };
+    rule_in(buf, n, product, m, name, fields, identifier, s)
 }

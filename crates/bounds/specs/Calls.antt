@@ -22,9 +22,7 @@ use Rattle.kind.specs.Kinds.{editionOf}
 use Rattle.element.specs.Data.{wordsOf}
 use Rattle.element.specs.Element.{Element}
 use Rattle.rule.specs.Rule.{Rule, elementsIn}
-use Rattle.deck.specs.declared.Scan.{Scan}
-use Rattle.deck.specs.declared.Scan.the-variants as Scan
-use Rattle.deck.specs.Deck.{readAs, readBy, readDeck, answered, scanned}
+use Rattle.deck.specs.Deck.{readAs, readBy, readDeck, answered, scanned, scanSays}
 use Rattle.plan.specs.Edit.{Edit, switch, rename, remove, insert, addRule, addElement, addWord, Plan, become, refuse, refuseGiven, planned, says}
 use Rattle.plan.specs.Given.{given}
 use Rattle.plan.specs.Handed.{Handed}
@@ -60,14 +58,10 @@ check-listed edition s = by (editionOf edition)
     by Edition.Unknown = edition-listed []
 
 -- and so does a pass over the deck
-abbrev pub passSays : Scan → Outcome
-passSays (Scan.Is n e) = Outcome.Done n
-passSays (Scan.No c q) = Outcome.No c q
-
-pub pass-listed : (edition : ℕ) (s : List ℕ) → Lists checkNumbers (passSays (scanned (readDeck edition s)))
+pub pass-listed : (edition : ℕ) (s : List ℕ) → Lists checkNumbers (scanSays (scanned (readDeck edition s)))
 pass-listed edition s = go (readDeck edition s) (check-listed edition s)
   where
-    go : (a : Answer (List Rule)) → Lists checkNumbers (answered a) → Lists checkNumbers (passSays (scanned a))
+    go : (a : Answer (List Rule)) → Lists checkNumbers (answered a) → Lists checkNumbers (scanSays (scanned a))
     go (got rs n) f = tt
     go (refused c q) f = f
 

@@ -1,6 +1,7 @@
 // Edits of one rule where it stands: switched on or off, renamed.
 use format::Fault;
 use format::Outcome;
+use format::Read;
 use locate::Spot;
 ghost use mathlib.Core.Path.{_≡_};
 ghost use Prim.Native.Nat.{ℕ, _<_};
@@ -16,7 +17,10 @@ fn switch_at(buf: &mut [u8], n: usize, k: u64, m: u64, a: usize, b: usize, on: b
     if m <= k {
         return Outcome::No(Fault::Absent, 0);
     }
-    let e = locate::name_end(buf, a);
+    let t = locate::name_end(buf, a);
+    let Read::Got(_, e) = t else {
+        return format::end_says(t);
+    };
     buffer::put_flag(buf, e, on);
     Outcome::Done(n)
 }
@@ -26,10 +30,10 @@ pub fn switch(edition: u64, buf: &mut [u8], n: usize, k: u64, on: bool) -> Outco
     ensures { λ r. ⌜ Edits edition n (switch k on) (now (buf .entry)) r (now (buf .exit)) ⌝ }
 {
     let f = plan::find(edition, buf, n, k);
-    match f {
-        Spot::No(c, p) => Outcome::No(c, p),
-        Spot::Is(m, a, b) => switch_at(buf, n, k, m, a, b, on),
-    }
+    let Spot::Is(m, a, b) = f else {
+        return locate::spot_says(f);
+    };
+    switch_at(buf, n, k, m, a, b, on)
 }
 
 // The name of rule k, from a + 4 to e, gives way to another.
@@ -58,14 +62,15 @@ pub fn rename(edition: u64, buf: &mut [u8], n: usize, k: u64, name: &[u8]) -> Ou
     ensures { λ r. ⌜ Edits edition n (rename k (now (name .entry))) (now (buf .entry)) r (now (buf .exit)) ⌝ }
 {
     let f = plan::find(edition, buf, n, k);
-    match f {
-        Spot::No(c, p) => Outcome::No(c, p),
-        Spot::Is(m, a, _) => {
-            if m <= k {
-                return Outcome::No(Fault::Absent, 0);
-            }
-            let e = locate::name_end(buf, a);
-            rename_at(buf, n, a, e, name)
-        }
+    let Spot::Is(count, a, _) = f else {
+        return locate::spot_says(f);
+    };
+    if count <= k {
+        return Outcome::No(Fault::Absent, 0);
     }
+    let t = locate::name_end(buf, a);
+    let Read::Got(_, e) = t else {
+        return format::end_says(t);
+    };
+    rename_at(buf, n, a, e, name)
 }

@@ -12,8 +12,8 @@ use borrow.Author.Tests.{le-leb, lt-leb, leb-true, eq-eqb, ne-eqb, eqb-true}
 use Rattle.format.specs.declared.Fault.{Fault}
 use Rattle.format.specs.declared.Fault.the-variants as Fault
 use Rattle.format.specs.declared.Outcome.{Outcome}
-use Rattle.format.specs.declared.Outcome.the-variants.{Done, No}
-use Rattle.format.specs.Fault.{placeOf}
+use Rattle.format.specs.declared.Outcome.the-variants.{Done, No, Given}
+use Rattle.format.specs.Fault.{placeOf, endSays}
 use Rattle.format.specs.Format.{Answer, got, refused, shift, mapped, andThen, endOf, Format, Bytes, pick, whole, apart}
 use Rattle.format.specs.ReadWrite.{pairRead, pairWrite, value, spelt, eachWrite}
 use Rattle.format.specs.Laws.ReadWrite.{within-is, length-spelt}
@@ -122,23 +122,27 @@ abbrev pub scanned : Answer (List Rule) → Scan
 scanned (got rs n) = Scan.Is (length rs) (total elementsIn rs)
 scanned (refused c p) = Scan.No c p
 
-outcome : Scan → Outcome
-outcome (Scan.Is n e) = Done n
-outcome (Scan.No c p) = No c p
+-- the answer as document 01 has it
+abbrev pub scanSays : Scan → Outcome
+scanSays (Scan.Is n e) = Done n
+scanSays (Scan.No c p) = No c p
 
-scan-answers : (a : Answer (List Rule)) → outcome (scanned a) ≡ answered a
-unfolding outcome
+-- a refusal as that of a pass
+abbrev pub noScan : Outcome → Scan
+noScan (Done n) = Scan.Is 0 0
+noScan (No c p) = Scan.No c p
+noScan (Given c p) = Scan.No c p
+
+scan-answers : (a : Answer (List Rule)) → scanSays (scanned a) ≡ answered a
 scan-answers (got rs n) = refl
 scan-answers (refused c p) = refl
 
-module _ (edition : ℕ) (s : List ℕ) {r : Scan} where
-  pub check-is : {n e : ℕ} → r ≡ scanned (readDeck edition s) → r ≡ Scan.Is n e → Done n ≡ answered (readDeck edition s)
-  unfolding outcome
-  check-is e h = sym (ap outcome h) ∙ ap outcome e ∙ scan-answers (readDeck edition s)
+scan-says : (a : Answer (List Rule)) {r : Scan} → r ≡ scanned a → (r ≡ scanned a) × (scanSays r ≡ answered a)
+scan-says a e = (e, ap scanSays e ∙ scan-answers a)
 
-  pub check-no : {c : Fault} {q : ℕ} → r ≡ scanned (readDeck edition s) → r ≡ Scan.No c q → No c q ≡ answered (readDeck edition s)
-  unfolding outcome
-  check-no e h = sym (ap outcome h) ∙ ap outcome e ∙ scan-answers (readDeck edition s)
+-- a reader's refusal, handed on
+scan-hands : {h : Read} {o : Outcome} {x : Scan} {c : Fault} {q : ℕ} → h ≡ Read.No c q → o ≡ endSays h → x ≡ noScan o → x ≡ Scan.No c q
+scan-hands k e f = f ∙ ap noScan (e ∙ ap endSays k)
 
 module _ (p : Product) (s : List ℕ) where
   pub scan-long : 60000 < length s → Scan.No Fault.Long 60000 ≡ scanned (readAs p s)
@@ -161,17 +165,17 @@ module _ (p : Product) (s : List ℕ) where
 
   -- h is what the header was read as, r the rules behind it
   module _ {h : Read} where
-    pub scan-header : {c : Fault} {q : ℕ} → length s ≤ 60000 → h ≡ seen itself header s 0 → h ≡ Read.No c q → Scan.No c q ≡ scanned (readAs p s)
+    pub scan-header : {o : Outcome} {x : Scan} {c : Fault} {q : ℕ} → length s ≤ 60000 → h ≡ seen itself header s 0 → h ≡ Read.No c q → o ≡ endSays h → x ≡ noScan o → x ≡ scanned (readAs p s)
     unfolding deck
-    scan-header l e k = scan-no length l (counted-is length header (each (rule p) 0) _ s 0 (pair-stop _ header _ s 0 itself e k)) k
+    scan-header l e k u v = scan-hands k u v ∙ scan-no length l (counted-is length header (each (rule p) 0) _ s 0 (pair-stop _ header _ s 0 itself e k)) k
 
     module _ {r : Read} {n m : ℕ} where
       totals : h ≡ seen itself header s 0 → h ≡ Read.Got n m → r ≡ seen (total elementsIn) (each (rule p) 0 n) s m → r ≡ seen (total elementsIn) (deck p) s 0
       unfolding deck
       totals e k f = counted-is (total elementsIn) header (each (rule p) 0) _ s 0 (pair-go _ header (each (rule p) 0) s 0 e k f)
 
-      pub scan-rules : {c : Fault} {q : ℕ} → length s ≤ 60000 → h ≡ seen itself header s 0 → h ≡ Read.Got n m → r ≡ seen (total elementsIn) (each (rule p) 0 n) s m → r ≡ Read.No c q → Scan.No c q ≡ scanned (readAs p s)
-      scan-rules l e k f o = scan-no (total elementsIn) l (totals e k f) o
+      pub scan-rules : {o : Outcome} {x : Scan} {c : Fault} {q : ℕ} → length s ≤ 60000 → h ≡ seen itself header s 0 → h ≡ Read.Got n m → r ≡ seen (total elementsIn) (each (rule p) 0 n) s m → r ≡ Read.No c q → o ≡ endSays r → x ≡ noScan o → x ≡ scanned (readAs p s)
+      scan-rules l e k f o u v = scan-hands o u v ∙ scan-no (total elementsIn) l (totals e k f) o
 
       module _ {t q : ℕ} where
         scan-got : (b : Bool) → length s ≤ 60000 → h ≡ seen itself header s 0 → h ≡ Read.Got n m → r ≡ seen (total elementsIn) (each (rule p) 0 n) s m → r ≡ Read.Got t q → eqb q (length s) ≡ b
@@ -197,13 +201,13 @@ module _ (p : Product) (s : List ℕ) where
         scan-is l e k f o w = sym (scan-got true l e k f o (eq-eqb q (length s) w))
 
 -- an edition's number first
-pub scan-by : (edition : ℕ) (s : List ℕ) {e : Edition} {p : Product} {r : Scan} → e ≡ editionOf edition → e ≡ Edition.Of p → r ≡ scanned (readAs p s) → r ≡ scanned (readDeck edition s)
+pub scan-by : (edition : ℕ) (s : List ℕ) {e : Edition} {p : Product} {r : Scan} → e ≡ editionOf edition → e ≡ Edition.Of p → r ≡ scanned (readAs p s) → (r ≡ scanned (readDeck edition s)) × (scanSays r ≡ answered (readDeck edition s))
 unfolding readDeck readBy
-scan-by edition s f h o = rw (← f, h) o
+scan-by edition s {p = p} f h o = rw (← f, h) (scan-says (readAs p s) o)
 
-pub scan-none : (edition : ℕ) (s : List ℕ) {e : Edition} → e ≡ editionOf edition → e ≡ Edition.Unknown → Scan.No Fault.Edition 0 ≡ scanned (readDeck edition s)
+pub scan-none : (edition : ℕ) (s : List ℕ) {e : Edition} → e ≡ editionOf edition → e ≡ Edition.Unknown → (Scan.No Fault.Edition 0 ≡ scanned (readDeck edition s)) × (No Fault.Edition 0 ≡ answered (readDeck edition s))
 unfolding readDeck readBy
-scan-none edition s f h = rw (← f, h)
+scan-none edition s f h = rw (← f, h) (refl, refl)
 
 -- ---- no place that a read answers is above 60,000
 pub deck-small : (p : Product) (rs : List Rule) → deck p .Fit rs → length rs ≤ 256

@@ -10,7 +10,7 @@ ghost use Rattle.format.specs.Combinators.{each};
 ghost use Rattle.format.specs.Rows.{total};
 ghost use Rattle.format.specs.Seen.{seen, itself};
 ghost use Rattle.rule.specs.Rule.{rule, elementsIn};
-ghost use Rattle.deck.specs.Deck.{header, readAs, readDeck, scanned, answered};
+ghost use Rattle.deck.specs.Deck.{header, readAs, readDeck, scanned, scanSays, noScan, answered};
 
 // What a pass over a deck tells: the number of rules and that of their elements; or a fault with its place.
 pub enum Scan {
@@ -53,6 +53,27 @@ fn rules_at(s: &[u8], at: usize, product: Product, n: u64) -> Read
     Read::Got(t, p)
 }
 
+// What a pass says: the number of rules, or a refusal.
+pub fn scan_says(c: Scan) -> Outcome
+    ensures { λ r. ⌜ r ≡ scanSays c ⌝ }
+{
+    match c {
+        Scan::Is(n, _) => Outcome::Done(n as usize),
+        Scan::No(d, p) => Outcome::No(d, p),
+    }
+}
+
+// A refusal as that of a pass.
+fn no_scan(o: Outcome) -> Scan
+    ensures { λ r. ⌜ r ≡ noScan o ⌝ }
+{
+    match o {
+        Outcome::Done(_) => Scan::Is(0, 0),
+        Outcome::No(c, p) => Scan::No(c, p),
+        Outcome::Given(c, p) => Scan::No(c, p),
+    }
+}
+
 // A pass over a deck by a product: 2 first, 13 last.
 fn pass_as(product: Product, s: &[u8]) -> Scan
     ensures { λ r. ⌜ r ≡ scanned (readAs product (now (s .entry))) ⌝ }
@@ -61,26 +82,22 @@ fn pass_as(product: Product, s: &[u8]) -> Scan
         return Scan::No(Fault::Long, 60000);
     }
     let h = header_at(s);
-    match h {
-        Read::No(c, p) => Scan::No(c, p),
-        Read::Got(n, p) => {
-            let r = rules_at(s, p, product, n);
-            match r {
-                Read::No(c, q) => Scan::No(c, q),
-                Read::Got(t, q) => {
-                    if q != s.len() {
-                        return Scan::No(Fault::Over, q);
-                    }
-                    Scan::Is(n, t)
-                }
-            }
-        }
+    let Read::Got(n, p) = h else {
+        return no_scan(format::end_says(h));
+    };
+    let r = rules_at(s, p, product, n);
+    let Read::Got(t, q) = r else {
+        return no_scan(format::end_says(r));
+    };
+    if q != s.len() {
+        return Scan::No(Fault::Over, q);
     }
+    Scan::Is(n, t)
 }
 
 // A pass over a deck.
 pub fn pass(edition: u64, s: &[u8]) -> Scan
-    ensures { λ r. ⌜ r ≡ scanned (readDeck edition (now (s .entry))) ⌝ }
+    ensures { λ r. ⌜ (r ≡ scanned (readDeck edition (now (s .entry)))) × (scanSays r ≡ answered (readDeck edition (now (s .entry)))) ⌝ }
 {
     let e = kind::edition_of(edition);
     let Edition::Of(product) = e else {
@@ -93,9 +110,5 @@ pub fn pass(edition: u64, s: &[u8]) -> Scan
 pub fn check(edition: u64, s: &[u8]) -> Outcome
     ensures { λ r. ⌜ r ≡ answered (readDeck edition (now (s .entry))) ⌝ }
 {
-    let r = pass(edition, s);
-    match r {
-        Scan::Is(n, _) => Outcome::Done(n as usize),
-        Scan::No(c, p) => Outcome::No(c, p),
-    }
+    scan_says(pass(edition, s))
 }

@@ -33,7 +33,7 @@ use Rattle.value.specs.declared.Valued.the-variants as Valued
 use Rattle.value.specs.Value.{valueSays, valueAnswer, fromData, fromKind, fromRow, fromEdition, valueOf}
 use Rattle.put.specs.Plan.{Fitted, holds, lacks, fromSpan, fromValue, isOf, fitted, write, deny, ifRoom, planData, planKind, planRow, planEdition, putting, putSays, Putting, putLeaves}
 use Rattle.rule.specs.Rule.{Rule}
-use Rattle.deck.specs.Deck.{readAs, readDeck, answered, scanned}
+use Rattle.deck.specs.Deck.{readAs, readDeck, answered, scanned, scanSays}
 use Rattle.tables.specs.Tables.{tabled, readSays, rulesLeft, rulesAfter, elementsLeft, elementsAfter}
 use Rattle.view.specs.View.{viewSays, nameView}
 use Rattle.view.specs.Word.{wordView}
@@ -47,7 +47,7 @@ use Rattle.bounds.specs.Data.{row-refuses}
 use Rattle.bounds.specs.Refused.{as-refused}
 use Rattle.bounds.specs.Listed.{Numbers, numbers, exactly, allowed, allowed-later, Lists}
 use Rattle.bounds.specs.Faulty.{elementNumbers, ElementListed, element-listed}
-use Rattle.bounds.specs.Calls.{checkNumbers, check-listed, passSays, pass-listed, readNumbers, read-listed, viewNumbers, name-listed, word-listed, fixed-listed, editNumbers, edit-listed}
+use Rattle.bounds.specs.Calls.{checkNumbers, check-listed, pass-listed, readNumbers, read-listed, viewNumbers, name-listed, word-listed, fixed-listed, editNumbers, edit-listed}
 
 -- the answer and the buffer of an edit are functions of what it was called with: two outcomes that the promise allows coincide
 pub edits-coincide : (edition n : ℕ) (e : Edit) (d : List ℕ) {r q : Outcome} {x y : List ℕ} → Edits edition n e d r x → Edits edition n e d q y → (r ≡ q) × (x ≡ y)
@@ -100,7 +100,7 @@ start-as-found d = go (leb 7 (length d)) refl
 pub check-refuses : (edition : ℕ) (s : List ℕ) → Lists checkNumbers (answered (readDeck edition s))
 check-refuses edition s = check-listed edition s
 
-pub pass-refuses : (edition : ℕ) (s : List ℕ) → Lists checkNumbers (passSays (scanned (readDeck edition s)))
+pub pass-refuses : (edition : ℕ) (s : List ℕ) → Lists checkNumbers (scanSays (scanned (readDeck edition s)))
 pass-refuses edition s = pass-listed edition s
 
 -- a read: 1 to 14

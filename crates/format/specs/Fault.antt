@@ -10,6 +10,8 @@ use Rattle.format.specs.declared.Fault.{Fault}
 use Rattle.format.specs.declared.Fault.the-variants.{Edition, Long, Cut, Mark, Version, Count, Form, Field, Unknown, Foreign, Date, Size, Over, Table, Stated, Absent, Text, Rules, Large, Room, Full, Last}
 use Rattle.format.specs.declared.Outcome.{Outcome}
 use Rattle.format.specs.declared.Outcome.the-variants.{Done, No, Given}
+use Rattle.format.specs.declared.Read.{Read}
+use Rattle.format.specs.declared.Read.the-variants as Read
 use Rattle.format.specs.Format.{pick}
 
 abbrev pub numberOf : Fault → ℕ
@@ -76,6 +78,25 @@ packed o = codeOf o + 256 * placeOf o
 -- what an answer that is an enum says: an outcome, for its number and place, and its values as numbers
 abbrev pub Said : Type 0
 Said = Outcome × List ℕ
+
+-- ---- a refusal handed on, where the answer is of another type
+
+-- what a reader says: where it came to an end, or its refusal
+abbrev pub endSays : Read → Outcome
+endSays (Read.Got v n) = Done n
+endSays (Read.No c p) = No c p
+
+-- and a refusal as a reader's
+abbrev pub noRead : Outcome → Read
+noRead (Done n) = Read.Got 0 n
+noRead (No c p) = Read.No c p
+noRead (Given c p) = Read.No c p
+
+-- "the same fault in the second deck or in given element data"
+abbrev pub inGiven : Outcome → Outcome
+inGiven (Done n) = Done n
+inGiven (No c p) = Given c p
+inGiven (Given c p) = Given c p
 
 -- ---- one number, both ways
 

@@ -2,7 +2,7 @@
 use Prim.Native.Nat.{ℕ, zero, suc, _+_, _≤_, _<_}
 use native.Mathlib.Nat.{add-zero, zero-add}
 use native.Mathlib.Omega.{arith}
-use mathlib.Core.Path.{_≡_, _∙_}
+use mathlib.Core.Path.{_≡_, refl, sym, ap, _∙_}
 use mathlib.Core.List.{List, [], _∷_, _++_, append-nil, append-assoc}
 use lib.ListN.{length, take, drop, length-append, length-drop}
 use lib.Seq.{take-all}
@@ -11,7 +11,7 @@ use Rattle.format.specs.declared.Read.{Read}
 use Rattle.format.specs.declared.Read.the-variants.{Got, No}
 use Rattle.format.specs.Format.{Format}
 use Rattle.format.specs.ReadWrite.{eachWrite, AllFit}
-use Rattle.format.specs.Seen.{seen}
+use Rattle.format.specs.Seen.{seen, unlike}
 use Rattle.format.specs.Written.{behind, Row, Stands, first}
 use Rattle.format.specs.Back.{Where, back-got, back-no}
 
@@ -77,32 +77,49 @@ nth a s from k at xs t e row l =
 
 -- ---- as the code finds it
 
--- whatever row of k values or more stands from a place on, at is where its value i starts
-unfoldable pub Skipped : {A : Type 0} → (ℕ → Format A) → List ℕ → ℕ → ℕ → ℕ → ℕ → Type 0
-Skipped {A} a s from k i at = (xs : List A) (t : List ℕ) → Row a s 0 from xs t → k ≤ length xs → at ≡ startIn a from xs i
+-- whatever row of k values or more stands from a place on, r tells where its value i starts
+unfoldable pub Skipped : {A : Type 0} → (ℕ → Format A) → List ℕ → ℕ → ℕ → ℕ → Read → Type 0
+Skipped {A} a s from k i r = (xs : List A) (t : List ℕ) → Row a s 0 from xs t → k ≤ length xs → r ≡ Got 0 (startIn a from xs i)
+
+ends-alike : {u v m n : ℕ} → Got u m ≡ Got v n → m ≡ n
+ends-alike e = cc
 
 module _ {A : Type 0} (a : ℕ → Format A) (s : List ℕ) (from k : ℕ) where
-  pub skip-start : Skipped a s from k 0 from
+  pub skip-start : Skipped a s from k 0 (Got 0 from)
   unfolding Skipped
-  skip-start xs t r h = start-first a from xs
+  skip-start xs t r h = ap (Got 0) (start-first a from xs)
 
-  module _ (i at : ℕ) where
-    pub skip-end : Skipped a s from k i at → i ≤ k → k ≤ i → Skipped a s from k k at
-    skip-end w l m = let e : i ≡ k = omega arith in rw e at w
+  -- of a row that stands there
+  module _ (i : ℕ) {r : Read} (w : Skipped a s from k i r) (xs : List A) (t : List ℕ) (row : Row a s 0 from xs t) (l : k ≤ length xs) where
+    pub skip-is : {v at : ℕ} → r ≡ Got v at → at ≡ startIn a from xs i
+    unfolding Skipped
+    skip-is h = ends-alike (sym h ∙ w xs t row l)
 
-    -- q is where the value ends that stands there
-    pub skip-step : (q : ℕ) → Skipped a s from k i at → i < k → Where (a i) s at (λ x. at + length (a i .write x)) q → Skipped a s from k (i + 1) q
+    pub skip-never : {B : Type 0} {c : Fault} {q : ℕ} → r ≡ No c q → B
+    unfolding Skipped
+    skip-never h = unlike (w xs t row l) h
+
+  module _ (i at : ℕ) (w : Skipped a s from k i (Got 0 at)) where
+    pub skip-end : i ≤ k → k ≤ i → Skipped a s from k k (Got 0 at)
+    skip-end l m = let e : i ≡ k = omega arith in rw e at w
+
+    -- the value that stands there
+    pub skip-nth : (xs : List A) (t : List ℕ) → Row a s 0 from xs t → k ≤ length xs → i < k → Nth a s from i at xs
+    skip-nth xs t row m l = nth a s from i at xs t (skip-is i w xs t row m refl) row (omega arith)
+
+    -- q is where it ends
+    pub skip-step : (q : ℕ) → i < k → Where (a i) s at (λ x. at + length (a i .write x)) q → Skipped a s from k (i + 1) (Got 0 q)
     unfolding Skipped Where
-    skip-step q w l h xs t row m =
-        let n = nth a s from i at xs t (w xs t row m) row (omega arith) in
-        omega (arith, h (n .x) (n .tail, n .stands), n .starts, start-more a from i xs (n .ys) (n .x) (n .whole))
+    skip-step q l h xs t row m =
+        let n = skip-nth xs t row m l in
+        ap (Got 0) (omega (arith, h (n .x) (n .tail, n .stands), n .starts, start-more a from i xs (n .ys) (n .x) (n .whole)))
 
     -- as it was read
     module _ (g : A → ℕ) {r : Read} where
-      pub skip-go : {v q : ℕ} → Skipped a s from k i at → i < k → r ≡ seen g (a i) s at → r ≡ Got v q → Skipped a s from k (i + 1) q
+      pub skip-go : {v q : ℕ} → i < k → r ≡ seen g (a i) s at → r ≡ Got v q → Skipped a s from k (i + 1) (Got 0 q)
       unfolding Where
-      skip-go w l e h = skip-step _ w l (λ x b. back-got g (a i) s at (b .1) e h .1)
+      skip-go l e h = skip-step _ l (λ x b. back-got g (a i) s at (b .1) e h .1)
 
-      pub skip-stop : {c : Fault} {q : ℕ} → Skipped a s from k i at → i < k → r ≡ seen g (a i) s at → r ≡ No c q → Skipped a s from k k 0
+      pub skip-stop : {c : Fault} {q : ℕ} → i < k → r ≡ seen g (a i) s at → r ≡ No c q → Skipped a s from k k r
       unfolding Skipped
-      skip-stop w l e h xs t row m = back-no g (a i) s at (nth a s from i at xs t (w xs t row m) row (omega arith) .stands) e h
+      skip-stop l e h xs t row m = back-no g (a i) s at (skip-nth xs t row m l .stands) e h

@@ -1,6 +1,6 @@
 // Answers: a value or a fault, and their numbers.
 ghost use mathlib.Core.Path.{_≡_};
-ghost use Rattle.format.specs.Fault.{numberOf};
+ghost use Rattle.format.specs.Fault.{numberOf, endSays, noRead, inGiven};
 ghost use Rattle.format.specs.Seen.{toldNothing};
 
 // The rows of document 01's table "Numbers a refusal gives"; specs/Fault.antt has their numbers.
@@ -80,5 +80,37 @@ pub fn untold(r: Read) -> Read
     match r {
         Read::Got(_, n) => Read::Got(0, n),
         Read::No(_, _) => r,
+    }
+}
+
+// What a reader says; a refusal is handed on as it is.
+pub fn end_says(r: Read) -> Outcome
+    ensures { λ x. ⌜ x ≡ endSays r ⌝ }
+{
+    match r {
+        Read::Got(_, n) => Outcome::Done(n),
+        Read::No(c, p) => Outcome::No(c, p),
+    }
+}
+
+// The same refusal as a reader's.
+pub fn no_read(o: Outcome) -> Read
+    ensures { λ x. ⌜ x ≡ noRead o ⌝ }
+{
+    match o {
+        Outcome::Done(n) => Read::Got(0, n),
+        Outcome::No(c, p) => Read::No(c, p),
+        Outcome::Given(c, p) => Read::No(c, p),
+    }
+}
+
+// The same refusal as that of a second deck or of given element data.
+pub fn in_given(o: Outcome) -> Outcome
+    ensures { λ x. ⌜ x ≡ inGiven o ⌝ }
+{
+    match o {
+        Outcome::Done(_) => o,
+        Outcome::No(c, p) => Outcome::Given(c, p),
+        Outcome::Given(_, _) => o,
     }
 }

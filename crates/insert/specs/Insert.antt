@@ -12,6 +12,9 @@ use Rattle.format.specs.declared.Fault.{Fault}
 use Rattle.format.specs.declared.Fault.the-variants as Fault
 use Rattle.format.specs.declared.Outcome.{Outcome}
 use Rattle.format.specs.declared.Outcome.the-variants as Outcome
+use Rattle.format.specs.declared.Read.{Read}
+use Rattle.format.specs.declared.Read.the-variants as Read
+use Rattle.format.specs.Fault.{inGiven}
 use Rattle.format.specs.Format.{Answer, got, refused, pick, Bytes}
 use Rattle.format.specs.ReadWrite.{spelt}
 use Rattle.format.specs.Laws.ReadWrite.{length-spelt}
@@ -29,8 +32,8 @@ use Rattle.buffer.specs.Laid.{putIn}
 use Rattle.buffer.specs.Holds.{Holds, Gap, holds-put, holds-fill}
 use Rattle.locate.specs.declared.Spot.{Spot}
 use Rattle.locate.specs.declared.Spot.the-variants as Spot
-use Rattle.locate.specs.Located.{located}
-use Rattle.locate.specs.Steps.{Sound, sound-read, Here, here, here-stands, nameEnd, name-end, start-within, start-past}
+use Rattle.locate.specs.Located.{located, spotSays}
+use Rattle.locate.specs.Steps.{Sound, sound-read, Here, here, here-stands, nameRead, nameEnd, name-end, name-never, start-within, start-past}
 use Rattle.plan.specs.Edit.{Plan, become, refuse, refuseGiven, atCopy, atSecond, insert, edited}
 use Rattle.plan.specs.Found.{Makes, Does, Within, found, ground, found-within}
 use Rattle.plan.specs.Makes.{made-no, made-given, made-rules, made-large, made-room, made-is}
@@ -202,6 +205,13 @@ module _ (n k m a b : ℕ) (s : List ℕ) (j q c e : ℕ) (d : List ℕ) where
       let z : drop j qs ≡ [] = drop-of-length-le qs {i = j} (omega arith) in
       rw (le-leb k (length rs) (omega arith), z) (made-no n d refl)
 
+  -- its name can be read
+  pub copies-unnamed : (r : Outcome) (z : List ℕ) {t : Read} {f : Fault} {o : ℕ} → j < q → t ≡ nameRead s c → t ≡ Read.No f o → Copies n k m a b s j q c e d r z
+  unfolding Copies
+  copies-unnamed r z lj f g p rs qs o w em ea eb u eq ec ee =
+      let h = here p s qs j u (omega arith) in
+      name-never s (startOf qs j) (f ∙ ap (nameRead s) ec) g p j (h .r) (here-stands p s qs j h)
+
   -- the rule, by its parts
   pub copies-is : (t x : ℕ) (f v l z : List ℕ) (r : Outcome) → Inserts n k m a b f v l d r z → f ≡ take (t - c) (drop c s) → v ≡ take (t + 6 - (t + 4)) (drop (t + 4) s) → l ≡ take (e - x) (drop x s)
       → k ≤ m → j < q → t ≡ nameEnd s c + 20 → x ≡ t + 6 + length (headBytes j) → Copies n k m a b s j q c e d r z
@@ -243,9 +253,11 @@ copy-sizes n k m a b d s j q c e t x f v l ef ev el w h lk y lj et ex =
 module _ (edition : ℕ) (s : List ℕ) (j : ℕ) {f : Spot} where
   module _ (n k m a b : ℕ) (d : List ℕ) where
     -- 34 to 45
-    pub makes-given : {c : Fault} {q : ℕ} → f ≡ located (λ xs. j) (readDeck edition s) → f ≡ Spot.No c q → Makes edition (λ rs. k) n m a b (insert k s j) d (Outcome.Given c q) d
+    pub makes-given : {u r : Outcome} {c : Fault} {q : ℕ} → f ≡ located (λ xs. j) (readDeck edition s) → f ≡ Spot.No c q → u ≡ spotSays f → r ≡ inGiven u → Makes edition (λ rs. k) n m a b (insert k s j) d r d
     unfolding Makes edited atSecond readDeck readBy
-    makes-given {c} {q} g h p rs fe o w em ea eb = made-given n d (go _ (readAs p s) (sym h ∙ (rw fe at g)))
+    makes-given {c = c} {q = q} g h u v p rs fe o w em ea eb =
+        let y = made-given n d (go _ (readAs p s) (sym h ∙ (rw fe at g))) in
+        (v ∙ ap inGiven (u ∙ ap spotSays h) ∙ y .0, y .1)
       where
         go : (F : List Rule → Plan) (x : Answer (List Rule)) → Spot.No c q ≡ located (λ xs. j) x → atSecond x F ≡ refuseGiven c q
         go F (got qs t) z = absurd (let u : _≡_ {A = ℕ} 0 1 = cc in omega arith)

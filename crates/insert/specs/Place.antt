@@ -12,6 +12,9 @@ use borrow.Author.Tests.{eq-eqb, ne-eqb}
 use Rattle.format.specs.Format.{pick}
 use Rattle.format.specs.ReadWrite.{spelt, eachWrite}
 use Rattle.format.specs.Laws.ReadWrite.{length-spelt}
+use Rattle.format.specs.declared.Fault.{Fault}
+use Rattle.format.specs.declared.Read.{Read}
+use Rattle.format.specs.declared.Read.the-variants as Read
 use Rattle.format.specs.Skip.{startIn}
 use Rattle.text.specs.Text.{string}
 use Rattle.kind.specs.declared.Product.{Product}
@@ -20,8 +23,8 @@ use Rattle.rule.specs.Parts.{front, front-long, back, back-long, headBytes, inn
 use Rattle.deck.specs.Written.{before, before-long, rules, rules-cons, rules-later, startOf, written-is}
 use Rattle.buffer.specs.Laid.{putIn, opened, moved, up}
 use Rattle.buffer.specs.Holds.{Holds, Gap, holds-start, holds-put, holds-open, holds-up}
-use Rattle.locate.specs.Steps.{Sound, Here, here, nameEnd}
-use Rattle.plan.specs.Makes.{name-ends}
+use Rattle.locate.specs.Steps.{Sound, Here, here, nameRead, nameEnd}
+use Rattle.plan.specs.Makes.{name-ends, name-there}
 use Rattle.parts.specs.Head.{head-long, head-short}
 
 -- how many bytes the rules from place k of m lose where a rule comes before them: "The rule at place 0 always has the long head .. others have the short one"
@@ -189,6 +192,11 @@ module _ (n : ℕ) (d : List ℕ) {p : Product} {rs : List Rule} (h : Here p (ta
   ends-at : startOf rs 1 ≡ nameEnd d 7 + 44 + length (inner (h .r .elements))
   unfolding startOf startIn rules eachWrite sizeOf
   ends-at = h .ends ∙ omega (arith, front-long (h .r), back-long 0 (h .r .elements), head-long, name-at)
+
+-- its name can be read
+pub opens-unnamed : (n m b len : ℕ) (d : List ℕ) {t : Read} {c : Fault} {q : ℕ} → t ≡ nameRead d 7 → t ≡ Read.No c q → 0 < m → Opens n 0 m 7 b len d d
+unfolding Opens startOf startIn rules eachWrite
+opens-unnamed n m b len d f g l p rs o w em k ea eb h r = name-there n d (here p (take n d) rs 0 o (omega arith)) f g
 
 module _ (n m b len : ℕ) (d : List ℕ) (e : ℕ) where
   pub opens-not : e ≡ nameEnd d 7 → 0 < m → b < e + 44 → Opens n 0 m 7 b len d d

@@ -1,6 +1,7 @@
 // A copy of a rule of a second deck, inserted at a place of a deck.
 use format::Fault;
 use format::Outcome;
+use format::Read;
 use locate::Spot;
 ghost use mathlib.Core.Path.{_≡_};
 ghost use Prim.Native.Nat.{_+_, _-_, _≤_, _<_};
@@ -45,7 +46,10 @@ fn open_first(buf: &mut [u8], n: usize, m: u64, b: usize, len: usize)
     requires { ⌜ (0 < m) × (b ≤ n) × (n ≤ 60000) × (len ≤ 200000) ⌝ }
     ensures { λ _. ⌜ Opens n 0 m 7 b len (now (buf .entry)) (now (buf .exit)) ⌝ }
 {
-    let e = locate::name_end(buf, 7);
+    let t = locate::name_end(buf, 7);
+    let Read::Got(_, e) = t else {
+        return;
+    };
     if b < e {
         return;
     }
@@ -145,7 +149,11 @@ fn insert_copy(
     if q <= j {
         return Outcome::No(Fault::Absent, 1);
     }
-    let size = locate::name_end(second, c) + 20;
+    let t = locate::name_end(second, c);
+    let Read::Got(_, name) = t else {
+        return format::in_given(format::end_says(t));
+    };
+    let size = name + 20;
     let first = size + 6 + parts::head_size(j);
     let front = &second[c..size];
     let count = &second[size + 4..size + 6];
@@ -169,10 +177,10 @@ fn insert_from(
     ensures { λ r. ⌜ Makes edition (λ rs. k) n m a b (insert k (now (second .entry)) j) (now (buf .entry)) r (now (buf .exit)) ⌝ }
 {
     let f = locate::locate(edition, second, j);
-    match f {
-        Spot::No(c, p) => Outcome::Given(c, p),
-        Spot::Is(q, c, e) => insert_copy(buf, n, k, m, a, b, second, j, q, c, e),
-    }
+    let Spot::Is(q, c, e) = f else {
+        return format::in_given(locate::spot_says(f));
+    };
+    insert_copy(buf, n, k, m, a, b, second, j, q, c, e)
 }
 
 // A copy of rule j of a second deck is inserted at place k.
@@ -180,8 +188,8 @@ pub fn insert(edition: u64, buf: &mut [u8], n: usize, k: u64, second: &[u8], j: 
     ensures { λ r. ⌜ Edits edition n (insert k (now (second .entry)) j) (now (buf .entry)) r (now (buf .exit)) ⌝ }
 {
     let f = plan::find(edition, buf, n, k);
-    match f {
-        Spot::No(c, p) => Outcome::No(c, p),
-        Spot::Is(m, a, b) => insert_from(edition, buf, n, k, m, a, b, second, j),
-    }
+    let Spot::Is(m, a, b) = f else {
+        return locate::spot_says(f);
+    };
+    insert_from(edition, buf, n, k, m, a, b, second, j)
 }

@@ -1,7 +1,8 @@
 // Editions, and the kinds of elements.
 use format::Fault;
+use format::Outcome;
 ghost use mathlib.Core.Path.{_≡_};
-ghost use Rattle.kind.specs.Kinds.{editionOf};
+ghost use Rattle.kind.specs.Kinds.{editionOf, kindSays};
 
 pub enum Product {
     Desk,
@@ -42,5 +43,15 @@ pub fn edition_of(edition: u64) -> Edition
         1 => Edition::Of(Product::Desk),
         2 => Edition::Of(Product::Studio),
         _ => Edition::Unknown,
+    }
+}
+
+// What an identifier's row says.
+pub fn kind_says(row: Row) -> Outcome
+    ensures { λ r. ⌜ r ≡ kindSays row ⌝ }
+{
+    match row {
+        Row::Is(_) => Outcome::Done(0),
+        Row::No(c, p) => Outcome::No(c, p),
     }
 }

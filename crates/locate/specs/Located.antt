@@ -2,6 +2,8 @@
 use Prim.Native.Nat.{ℕ, _+_, _-_}
 use mathlib.Core.List.{List}
 use lib.ListN.{length}
+use Rattle.format.specs.declared.Outcome.{Outcome}
+use Rattle.format.specs.declared.Outcome.the-variants as Outcome
 use Rattle.format.specs.Format.{Answer, got, refused}
 use Rattle.rule.specs.Rule.{Rule}
 use Rattle.deck.specs.Written.{startOf}
@@ -16,3 +18,14 @@ lastOf rs = length rs - 1
 abbrev pub located : (List Rule → ℕ) → Answer (List Rule) → Spot
 located k (got rs n) = Is (length rs) (startOf rs (k rs)) (startOf rs (k rs + 1))
 located k (refused c q) = No c q
+
+-- the answer as document 01 has it
+abbrev pub spotSays : Spot → Outcome
+spotSays (Is n a b) = Outcome.Done 0
+spotSays (No c q) = Outcome.No c q
+
+-- a refusal as that of a place
+abbrev pub noSpot : Outcome → Spot
+noSpot (Outcome.Done n) = Is 0 0 0
+noSpot (Outcome.No c q) = No c q
+noSpot (Outcome.Given c q) = No c q

@@ -10,6 +10,8 @@ use lib.Dec.{leb}
 use borrow.Author.Tests.{le-leb, lt-leb, leb-true}
 use lib.Seq.{take-all, drop-at, length-take-le}
 use Rattle.format.specs.declared.Fault.{Fault}
+use Rattle.format.specs.declared.Fault.the-variants as Fault
+use Rattle.format.specs.declared.Outcome.{Outcome}
 use Rattle.format.specs.declared.Read.{Read}
 use Rattle.format.specs.declared.Read.the-variants.{Got, No}
 use Rattle.format.specs.Format.{Answer, got, refused, Bytes, pick}
@@ -19,7 +21,7 @@ use Rattle.format.specs.Combinators.{number}
 use Rattle.format.specs.Seen.{seen, itself, unlike}
 use Rattle.format.specs.Written.{Held, Row}
 use Rattle.format.specs.Back.{Where, stands-seen, stands-room, seen-ends}
-use Rattle.format.specs.Skip.{startIn, Skipped, skip-start, skip-step, skip-end, Nth, nth, start-more}
+use Rattle.format.specs.Skip.{startIn, Skipped, skip-start, skip-step, skip-end, skip-nth, skip-is, skip-never, Nth, nth, start-more}
 use Rattle.text.specs.Text.{string}
 use Rattle.kind.specs.declared.Product.{Product}
 use Rattle.kind.specs.declared.Edition.{Edition}
@@ -28,13 +30,13 @@ use Rattle.kind.specs.Kinds.{editionOf}
 use Rattle.rule.specs.Rule.{Rule, rule}
 use Rattle.rule.specs.Parts.{front, back, sizeOf, body-size, rule-is}
 use Rattle.rule.specs.Places.{ruleBytes, rule-parts}
-use Rattle.deck.specs.Deck.{deck, deck-row, readAs, readBy, readDeck, scanned, read-writes-back}
+use Rattle.deck.specs.Deck.{deck, deck-row, readAs, readBy, readDeck, scanned, scanSays, read-writes-back}
 use Rattle.deck.specs.declared.Scan.{Scan}
 use Rattle.deck.specs.declared.Scan.the-variants as Scan
 use Rattle.deck.specs.Written.{written, written-as, written-is, rules, rules-cons, before, before-long, startOf, start-is, start-as}
 use Rattle.locate.specs.declared.Spot.{Spot}
 use Rattle.locate.specs.declared.Spot.the-variants as Spot
-use Rattle.locate.specs.Located.{located}
+use Rattle.locate.specs.Located.{located, noSpot}
 
 -- ---- a sound deck: its rules fit, and it is what they are written as
 pub record Sound (p : Product) (s : List ℕ) (rs : List Rule) : Type 0 where
@@ -85,116 +87,156 @@ here-stands p s rs k h =
     let w : front (h .r) ++ (back k (h .r .elements) ++ L) ≡ rule p k .write (h .r) ++ L = rw (rule-is p k (h .r), append-assoc) in
     (L, record { fit = h .fits; is = ap (drop (startOf rs k)) (h .is) ∙ drop-at (before (length rs) (take k rs)) _ (startOf rs k) (h .starts) ∙ w })
 
+here-at : (p : Product) (s : List ℕ) (rs : List Rule) (k a : ℕ) (h : Here p s rs k) → a ≡ startOf rs k → Held (rule p k) s a (h .r)
+here-at p s rs k a h e = rw e (here-stands p s rs k h)
+
 -- ---- a rule that stands at a place, as it is stepped over
 
--- whatever rule stands at a place, r is where it ends
-unfoldable pub Follows : List ℕ → ℕ → ℕ → Type 0
-Follows s at r = (p : Product) (i : ℕ) → Where (rule p i) s at (λ x. at + ruleBytes p i x) r
+-- whatever rule stands at a place, r tells where it ends
+unfoldable pub Follows : List ℕ → ℕ → Read → Type 0
+Follows s at r = (p : Product) (i : ℕ) → Where (rule p i) s at (λ x. Got 0 (at + ruleBytes p i x)) r
 
--- where the name ends of the rule that starts at a place; where no String can be read there, the place itself
+-- the name of the rule that starts at a place: behind the 4 bytes of its signature
+unfoldable pub nameRead : List ℕ → ℕ → Read
+nameRead s at = pick (leb 4 (length s - at)) (seen length string s (at + 4)) (No Fault.Cut at)
+
+-- where it ends; where no String can be read there, the place itself
 abbrev pub ended : ℕ → Read → ℕ
 ended at (Got v n) = n
 ended at (No c q) = at
 
 unfoldable pub nameEnd : List ℕ → ℕ → ℕ
-nameEnd s at = pick (leb 4 (length s - at)) (ended at (seen length string s (at + 4))) at
+nameEnd s at = ended at (nameRead s at)
 
 module _ (s : List ℕ) (at : ℕ) where
-  pub name-end : (p : Product) (i : ℕ) (x : Rule) → Held (rule p i) s at x → nameEnd s at ≡ at + 4 + length (string .write (x .name))
-  unfolding nameEnd pick
-  name-end p i x b =
+  pub name-read : (p : Product) (i : ℕ) (x : Rule) → Held (rule p i) s at x → nameRead s at ≡ Got (length (x .name)) (at + 4 + length (string .write (x .name)))
+  unfolding nameRead pick
+  name-read p i x b =
       let y = rule-parts p i s at x (b .0) (b .1) in
       let h : 4 ≤ length s - at = omega (arith, stands-room (rule p i) s at (b .1), y .ends) in
-      rw (le-leb 4 (length s - at) h, stands-seen length string s (at + 4) (y .named .1))
+      rw (le-leb 4 (length s - at) h) (stands-seen length string s (at + 4) (y .named .1))
+
+  pub name-end : (p : Product) (i : ℕ) (x : Rule) → Held (rule p i) s at x → nameEnd s at ≡ at + 4 + length (string .write (x .name))
+  unfolding nameEnd
+  name-end p i x b = ap (ended at) (name-read p i x b)
 
   -- it stands to its end
   all-there : (p : Product) (i : ℕ) (x : Rule) → Held (rule p i) s at x → nameEnd s at + 24 + sizeOf i (x .elements) ≤ length s
   all-there p i x b = omega (arith, name-end p i x b, rule-parts p i s at x (b .0) (b .1) .ends, body-size p i (x .elements), stands-room (rule p i) s at (b .1))
 
-  pub name-past : {w : ℕ} → w ≡ length s - at → w < 4 → at ≡ nameEnd s at
-  unfolding nameEnd pick
+  pub name-past : {w : ℕ} → w ≡ length s - at → w < 4 → No Fault.Cut at ≡ nameRead s at
+  unfolding nameRead pick
   name-past {w} e h = rw (lt-leb 4 (length s - at) (omega arith))
 
+  pub name-is : {w : ℕ} {t : Read} → w ≡ length s - at → 4 ≤ w → t ≡ seen length string s (at + 4) → t ≡ nameRead s at
+  unfolding nameRead pick
+  name-is e h f = rw (le-leb 4 (length s - at) (omega arith)) f
+
   pub name-within : at ≤ length s → nameEnd s at ≤ length s
-  unfolding nameEnd pick
+  unfolding nameEnd nameRead pick
   name-within l = go (leb 4 (length s - at)) refl (seen length string s (at + 4)) refl
     where
-      go : (b : Bool) → leb 4 (length s - at) ≡ b → (t : Read) → seen length string s (at + 4) ≡ t → pick b (ended at t) at ≤ length s
+      go : (b : Bool) → leb 4 (length s - at) ≡ b → (t : Read) → seen length string s (at + 4) ≡ t → ended at (pick b t (No Fault.Cut at)) ≤ length s
       go true e (Got v n) f = omega (arith, leb-true 4 (length s - at) e, seen-ends length string s (at + 4) refl f)
       go true e (No c q) f = l
       go false e t f = l
 
-  name-by : {w : ℕ} {t : Read} → w ≡ length s - at → 4 ≤ w → t ≡ seen length string s (at + 4) → ended at t ≡ nameEnd s at
-  unfolding nameEnd pick
-  name-by e h f = rw (le-leb 4 (length s - at) (omega arith), ← f)
+  -- t is what the name was read as
+  module _ {t : Read} (f : t ≡ nameRead s at) where
+    pub name-got : {u m : ℕ} → t ≡ Got u m → m ≡ nameEnd s at
+    unfolding nameEnd
+    name-got h = ap (ended at) (sym h ∙ f)
 
-  pub name-is : {w v n : ℕ} {t : Read} → w ≡ length s - at → 4 ≤ w → t ≡ seen length string s (at + 4) → t ≡ Got v n → n ≡ nameEnd s at
-  name-is e h f g = sym (ap (ended at) g) ∙ name-by e h f
+    pub name-never : {B : Type 0} {c : Fault} {q : ℕ} → t ≡ No c q → (p : Product) (i : ℕ) (x : Rule) → Held (rule p i) s at x → B
+    name-never h p i x b = unlike (f ∙ name-read p i x b) h
 
-  pub name-no : {w q : ℕ} {c : Fault} {t : Read} → w ≡ length s - at → 4 ≤ w → t ≡ seen length string s (at + 4) → t ≡ No c q → at ≡ nameEnd s at
-  name-no e h f g = sym (ap (ended at) g) ∙ name-by e h f
+  -- m is where the name ends, z what Data Size was read as
+  module _ {m : ℕ} {z : Read} where
+    pub size-read : (p : Product) (i : ℕ) (x : Rule) → Held (rule p i) s at x → m ≡ nameEnd s at → z ≡ seen itself (number 4) s (m + 20) → z ≡ Got (sizeOf i (x .elements)) (m + 20 + 4)
+    unfolding number
+    size-read p i x b e f =
+        let w = e ∙ name-end p i x b in
+        let y = rule-parts p i s at x (b .0) (b .1) .sizes in
+        rw w (rw w at f ∙ (rw (length-spelt, body-size) at (stands-seen itself (number 4) s _ (y .1))))
 
-  -- m is where the name ends
-  module _ {m : ℕ} where
-    pub follows-short : (r : ℕ) {w : ℕ} → m ≡ nameEnd s at → w ≡ length s - m → w < 20 → Follows s at r
+    pub size-is : {v q : ℕ} (p : Product) (i : ℕ) (x : Rule) → Held (rule p i) s at x → m ≡ nameEnd s at → z ≡ seen itself (number 4) s (m + 20) → z ≡ Got v q → (v ≡ sizeOf i (x .elements)) × (q ≡ m + 20 + 4)
+    size-is {v} {q} p i x b e f k = let g : Got v q ≡ Got (sizeOf i (x .elements)) (m + 20 + 4) = sym k ∙ size-read p i x b e f in ((cc), (cc))
+
+  module _ {t : Read} where
+    pub follows-unnamed : (r : Read) {c : Fault} {q : ℕ} → t ≡ nameRead s at → t ≡ No c q → Follows s at r
     unfolding Follows Where
-    follows-short r e g l p i x b = absurd (omega (arith, all-there p i x b))
+    follows-unnamed r f h p i x b = name-never f h p i x b
 
-    -- z is what Data Size was read as
-    module _ {z : Read} where
-      pub size-read : (p : Product) (i : ℕ) (x : Rule) → Held (rule p i) s at x → m ≡ nameEnd s at → z ≡ seen itself (number 4) s (m + 20) → z ≡ Got (sizeOf i (x .elements)) (m + 20 + 4)
-      unfolding number
-      size-read p i x b e f =
-          let w = e ∙ name-end p i x b in
-          let y = rule-parts p i s at x (b .0) (b .1) .sizes in
-          rw w (rw w at f ∙ (rw (length-spelt, body-size) at (stands-seen itself (number 4) s _ (y .1))))
-
-      pub follows-unsized : (r : ℕ) {c : Fault} {q : ℕ} → m ≡ nameEnd s at → z ≡ seen itself (number 4) s (m + 20) → z ≡ No c q → Follows s at r
+    module _ {u m : ℕ} where
+      pub follows-short : (r : Read) {w : ℕ} → t ≡ nameRead s at → t ≡ Got u m → w ≡ length s - m → w < 20 → Follows s at r
       unfolding Follows Where
-      follows-unsized r e f k p i x b = unlike (size-read p i x b e f) k
+      follows-short r f h g l p i x b = absurd (omega (arith, name-got f h, all-there p i x b))
 
-      module _ {v q : ℕ} where
-        pub size-is : (p : Product) (i : ℕ) (x : Rule) → Held (rule p i) s at x → m ≡ nameEnd s at → z ≡ seen itself (number 4) s (m + 20) → z ≡ Got v q → (v ≡ sizeOf i (x .elements)) × (q ≡ m + 20 + 4)
-        size-is p i x b e f k = let g : Got v q ≡ Got (sizeOf i (x .elements)) (m + 20 + 4) = sym k ∙ size-read p i x b e f in ((cc), (cc))
-
-        pub follows-cut : (r : ℕ) {w : ℕ} → m ≡ nameEnd s at → z ≡ seen itself (number 4) s (m + 20) → z ≡ Got v q → w ≡ length s - q → w < v → Follows s at r
+      module _ {z : Read} where
+        pub follows-unsized : (r : Read) {c : Fault} {q : ℕ} → t ≡ nameRead s at → t ≡ Got u m → z ≡ seen itself (number 4) s (m + 20) → z ≡ No c q → Follows s at r
         unfolding Follows Where
-        follows-cut r e f k g l p i x b =
-            let d = size-is p i x b e f k in
-            absurd (omega (arith, all-there p i x b, d .0, d .1, e))
+        follows-unsized r f h o k p i x b = unlike (size-read p i x b (name-got f h) o) k
 
-        pub follows-is : m ≡ nameEnd s at → z ≡ seen itself (number 4) s (m + 20) → z ≡ Got v q → Follows s at (q + v)
-        unfolding Follows Where
-        follows-is e f k p i x b =
-            let d = size-is p i x b e f k in
-            omega (arith, rule-parts p i s at x (b .0) (b .1) .ends, body-size p i (x .elements), d .0, d .1, e, name-end p i x b)
+        module _ {v q : ℕ} where
+          pub follows-cut : (r : Read) {w : ℕ} → t ≡ nameRead s at → t ≡ Got u m → z ≡ seen itself (number 4) s (m + 20) → z ≡ Got v q → w ≡ length s - q → w < v → Follows s at r
+          unfolding Follows Where
+          follows-cut r f h o k g l p i x b =
+              let e = name-got f h in
+              let d = size-is p i x b e o k in
+              absurd (omega (arith, all-there p i x b, d .0, d .1, e))
 
-pub ruleset following = (follows-short, follows-unsized, follows-cut, follows-is)
+          pub follows-is : t ≡ nameRead s at → t ≡ Got u m → z ≡ seen itself (number 4) s (m + 20) → z ≡ Got v q → Follows s at (Got 0 (q + v))
+          unfolding Follows Where
+          follows-is f h o k p i x b =
+              let e = name-got f h in
+              let d = size-is p i x b e o k in
+              ap (Got 0) (omega (arith, rule-parts p i s at x (b .0) (b .1) .ends, body-size p i (x .elements), d .0, d .1, e, name-end p i x b))
+
+pub ruleset following = (follows-unnamed, follows-short, follows-unsized, follows-cut, follows-is)
+
+-- r is what was told of its end
+module _ (s : List ℕ) (at : ℕ) {r : Read} (f : Follows s at r) (p : Product) (i : ℕ) where
+  pub follows-got : {v q : ℕ} → r ≡ Got v q → Where (rule p i) s at (λ x. at + ruleBytes p i x) q
+  unfolding Follows Where
+  follows-got {v} {q} h x b = let g : Got v q ≡ Got 0 (at + ruleBytes p i x) = sym h ∙ f p i x b in cc
+
+  pub follows-never : {B : Type 0} {c : Fault} {q : ℕ} → r ≡ No c q → (x : Rule) → Held (rule p i) s at x → B
+  unfolding Follows Where
+  follows-never h x b = unlike (f p i x b) h
 
 -- ---- from rule to rule
 
--- whatever rules stand behind the header, k of them or more, rule i of them starts at a place
-unfoldable pub Reached : List ℕ → ℕ → ℕ → ℕ → Type 0
-Reached s k i at = (p : Product) → Skipped (rule p) s 7 k i at
+-- whatever rules stand behind the header, k of them or more, r tells where rule i of them starts
+unfoldable pub Reached : List ℕ → ℕ → ℕ → Read → Type 0
+Reached s k i r = (p : Product) → Skipped (rule p) s 7 k i r
 
 module _ (s : List ℕ) (k : ℕ) where
-  pub reached-start : Reached s k 0 7
+  pub reached-start : Reached s k 0 (Got 0 7)
   unfolding Reached
   reached-start p = skip-start (rule p) s 7 k
 
   module _ (i at : ℕ) where
-    pub reached-go : (q : ℕ) → Reached s k i at → i < k → Follows s at q → Reached s k (i + 1) q
-    unfolding Reached Follows
-    reached-go q w l f p = skip-step (rule p) s 7 k i at q (w p) l (f p i)
+    pub reached-go : {r : Read} {v q : ℕ} → Reached s k i (Got 0 at) → i < k → Follows s at r → r ≡ Got v q → Reached s k (i + 1) (Got 0 q)
+    unfolding Reached
+    reached-go w l f h p = skip-step (rule p) s 7 k i at (w p) _ l (follows-got s at f p i h)
 
-    pub reached-end : Reached s k i at → i ≤ k → k ≤ i → Reached s k k at
+    pub reached-stop : {r : Read} {c : Fault} {q : ℕ} → Reached s k i (Got 0 at) → i < k → Follows s at r → r ≡ No c q → Reached s k k r
+    unfolding Reached Skipped
+    reached-stop w l f h p xs t row m = let n = skip-nth (rule p) s 7 k i at (w p) xs t row m l in follows-never s at f p i h (n .x) (n .tail, n .stands)
+
+    pub reached-end : Reached s k i (Got 0 at) → i ≤ k → k ≤ i → Reached s k k (Got 0 at)
     unfolding Reached
     reached-end w l m p = skip-end (rule p) s 7 k i at (w p) l m
 
-    -- of a sound deck
-    pub reached-is : (p : Product) (rs : List Rule) → Reached s k i at → Sound p s rs → k ≤ length rs → at ≡ startOf rs i
-    unfolding Reached Skipped
-    reached-is p rs w o l = w p rs [] (sound-row p s rs o) l ∙ start-as p rs i
+  -- of a sound deck
+  module _ (i : ℕ) {r : Read} (w : Reached s k i r) (p : Product) (rs : List Rule) (o : Sound p s rs) (l : k ≤ length rs) where
+    pub reached-is : {v at : ℕ} → r ≡ Got v at → at ≡ startOf rs i
+    unfolding Reached
+    reached-is h = skip-is (rule p) s 7 k i (w p) rs [] (sound-row p s rs o) l h ∙ start-as p rs i
+
+    pub reached-never : {B : Type 0} {c : Fault} {q : ℕ} → r ≡ No c q → B
+    unfolding Reached
+    reached-never h = skip-never (rule p) s 7 k i (w p) rs [] (sound-row p s rs o) l h
 
 -- ---- what is answered
 
@@ -231,20 +273,32 @@ module _ (s : List ℕ) (n k : ℕ) where
   unfolding Spots
   spots-past l p rs m o e = rw (start-past p s rs k o (omega arith), start-past p s rs (k + 1) o (omega arith), e)
 
-  pub spots-is : (a b : ℕ) → k < n → Reached s k k a → Follows s a b → Spots s n k (Spot.Is n a b)
-  unfolding Spots Follows Where
-  spots-is a b l w f p rs m o e =
-      let ea : a ≡ startOf rs k = reached-is s k k a p rs w o (omega arith) in
-      let eb : b ≡ startOf rs (k + 1) = ends (here p s rs k o (omega arith)) ea in
-      rw (e, ea, eb)
-    where
-      ends : Here p s rs k → a ≡ startOf rs k → b ≡ startOf rs (k + 1)
-      ends h ea = omega (arith, f p k (h .r) (rw ea (here-stands p s rs k h)), ea, h .ends, ap length (rule-is p k (h .r)), length-append (front (h .r)) (back k (h .r .elements)))
+  -- f is what its start was told as, e its end
+  module _ {f : Read} where
+    pub spots-unreached : (w : Spot) {c : Fault} {q : ℕ} → k < n → Reached s k k f → f ≡ No c q → Spots s n k w
+    unfolding Spots
+    spots-unreached w l g h p rs m o x = reached-never s k k g p rs o (omega arith) h
+
+    module _ {u a : ℕ} (l : k < n) (g : Reached s k k f) (h : f ≡ Got u a) where
+      stands : (p : Product) (rs : List Rule) → Sound p s rs → n ≡ length rs → (a ≡ startOf rs k) × Here p s rs k
+      stands p rs o x = (reached-is s k k g p rs o (omega arith) h, here p s rs k o (omega arith))
+
+      pub spots-unended : (w : Spot) {e : Read} {c : Fault} {q : ℕ} → Follows s a e → e ≡ No c q → Spots s n k w
+      unfolding Spots
+      spots-unended w i j p rs m o x = let z = stands p rs o x in follows-never s a i p k j (z .1 .r) (here-at p s rs k a (z .1) (z .0))
+
+      pub spots-is : {e : Read} {v b : ℕ} → Follows s a e → e ≡ Got v b → Spots s n k (Spot.Is n a b)
+      unfolding Spots Where
+      spots-is {b = b} i j p rs m o x =
+          let z = stands p rs o x in
+          let r = z .1 .r in
+          let eb : b ≡ startOf rs (k + 1) = omega (arith, follows-got s a i p k j r (here-at p s rs k a (z .1) (z .0)), z .0, z .1 .ends, ap length (rule-is p k r), length-append (front r) (back k (r .elements))) in
+          rw (x, z .0, eb)
 
 -- k is the rule that is asked for
 module _ (k : List Rule → ℕ) (edition : ℕ) (s : List ℕ) {c : Scan} where
-  pub located-no : {d : Fault} {q : ℕ} → c ≡ scanned (readDeck edition s) → c ≡ Scan.No d q → Spot.No d q ≡ located k (readDeck edition s)
-  located-no {d} {q} e h = go (readDeck edition s) (sym h ∙ e)
+  pub located-no : {o : Outcome} {w : Spot} {d : Fault} {q : ℕ} → c ≡ scanned (readDeck edition s) → c ≡ Scan.No d q → o ≡ scanSays c → w ≡ noSpot o → w ≡ located k (readDeck edition s)
+  located-no {d = d} {q = q} e h f g = g ∙ ap noSpot (f ∙ ap scanSays h) ∙ go (readDeck edition s) (sym h ∙ e)
     where
       go : (a : Answer (List Rule)) → Scan.No d q ≡ scanned a → Spot.No d q ≡ located k a
       go (got rs m) z = absurd (let y : _≡_ {A = ℕ} 0 1 = cc in omega arith)

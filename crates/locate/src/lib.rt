@@ -1,11 +1,12 @@
 // Where a rule of a deck stands: the deck is judged by one pass, and the rules before it are stepped over by their Data Size.
 use deck::Scan;
 use format::Fault;
+use format::Outcome;
 use format::Read;
 ghost use mathlib.Core.Path.{_≡_};
 ghost use Rattle.deck.specs.Deck.{readDeck};
-ghost use Rattle.locate.specs.Located.{located, lastOf};
-ghost use Rattle.locate.specs.Steps.{nameEnd, Follows, Reached, Spots};
+ghost use Rattle.locate.specs.Located.{located, lastOf, spotSays, noSpot};
+ghost use Rattle.locate.specs.Steps.{nameRead, Follows, Reached, Spots};
 
 // The number of rules, where rule k starts and where it ends; past the last rule both are the end of the deck.
 pub enum Spot {
@@ -13,49 +14,73 @@ pub enum Spot {
     No(Fault, usize),
 }
 
-// Where the name ends of the rule that starts at a place; where no String can be read there, the place itself.
-pub fn name_end(s: &[u8], at: usize) -> usize
-    ensures { λ r. ⌜ r ≡ nameEnd (now (s .entry)) at ⌝ }
+// What a place says.
+pub fn spot_says(f: Spot) -> Outcome
+    ensures { λ r. ⌜ r ≡ spotSays f ⌝ }
+{
+    match f {
+        Spot::Is(_, _, _) => Outcome::Done(0),
+        Spot::No(c, p) => Outcome::No(c, p),
+    }
+}
+
+// A refusal as that of a place.
+fn no_spot(o: Outcome) -> Spot
+    ensures { λ r. ⌜ r ≡ noSpot o ⌝ }
+{
+    match o {
+        Outcome::Done(_) => Spot::Is(0, 0, 0),
+        Outcome::No(c, p) => Spot::No(c, p),
+        Outcome::Given(c, p) => Spot::No(c, p),
+    }
+}
+
+// The name of the rule that starts at a place; its value is the number of its units.
+pub fn name_end(s: &[u8], at: usize) -> Read
+    ensures { λ r. ⌜ r ≡ nameRead (now (s .entry)) at ⌝ }
 {
     if wire::left(s, at) < 4 {
-        return at;
+        return Read::No(Fault::Cut, at);
     }
-    let t = text::string_at(s, at + 4);
-    match t {
-        Read::Got(_, e) => e,
-        Read::No(_, _) => at,
-    }
+    text::string_at(s, at + 4)
 }
 
 // Where the rule that starts at a place of a sound deck ends.
-fn end_of(s: &[u8], at: usize) -> usize
+fn end_of(s: &[u8], at: usize) -> Read
     ensures { λ r. ⌜ Follows (now (s .entry)) at r ⌝ }
 {
-    let e = name_end(s, at);
+    let t = name_end(s, at);
+    let Read::Got(_, e) = t else {
+        return t;
+    };
     if wire::left(s, e) < 20 {
-        return at;
+        return Read::No(Fault::Cut, e);
     }
     let z = wire::u32_at(s, e + 20);
     let Read::Got(size, p) = z else {
-        return at;
+        return z;
     };
     if (wire::left(s, p) as u64) < size {
-        return at;
+        return Read::No(Fault::Size, e + 20);
     }
-    p + size as usize
+    Read::Got(0, p + size as usize)
 }
 
 // Where rule k of a sound deck starts.
-pub fn start_of(s: &[u8], k: u64) -> usize
+pub fn start_of(s: &[u8], k: u64) -> Read
     ensures { λ r. ⌜ Reached (now (s .entry)) k k r ⌝ }
 {
     let mut i = 0;
     let mut p = 7;
     while i < k {
-        p = end_of(s, p);
+        let r = end_of(s, p);
+        let Read::Got(_, q) = r else {
+            return r;
+        };
+        p = q;
         i += 1;
     }
-    p
+    Read::Got(0, p)
 }
 
 // Where rule k of a sound deck of n rules stands.
@@ -65,8 +90,15 @@ fn spot_of(s: &[u8], n: u64, k: u64) -> Spot
     if n <= k {
         return Spot::Is(n, s.len(), s.len());
     }
-    let a = start_of(s, k);
-    Spot::Is(n, a, end_of(s, a))
+    let f = start_of(s, k);
+    let Read::Got(_, a) = f else {
+        return no_spot(format::end_says(f));
+    };
+    let e = end_of(s, a);
+    let Read::Got(_, b) = e else {
+        return no_spot(format::end_says(e));
+    };
+    Spot::Is(n, a, b)
 }
 
 // Where rule k of a deck stands.
@@ -74,10 +106,10 @@ pub fn locate(edition: u64, s: &[u8], k: u64) -> Spot
     ensures { λ r. ⌜ r ≡ located (λ rs. k) (readDeck edition (now (s .entry))) ⌝ }
 {
     let c = deck::pass(edition, s);
-    match c {
-        Scan::No(d, p) => Spot::No(d, p),
-        Scan::Is(n, _) => spot_of(s, n, k),
-    }
+    let Scan::Is(n, _) = c else {
+        return no_spot(deck::scan_says(c));
+    };
+    spot_of(s, n, k)
 }
 
 // Where the last rule of a deck stands.
@@ -85,13 +117,11 @@ pub fn last(edition: u64, s: &[u8]) -> Spot
     ensures { λ r. ⌜ r ≡ located lastOf (readDeck edition (now (s .entry))) ⌝ }
 {
     let c = deck::pass(edition, s);
-    match c {
-        Scan::No(d, p) => Spot::No(d, p),
-        Scan::Is(n, _) => {
-            if n == 0 {
-                return spot_of(s, 0, 0);
-            }
-            spot_of(s, n, n - 1)
-        }
+    let Scan::Is(n, _) = c else {
+        return no_spot(deck::scan_says(c));
+    };
+    if n == 0 {
+        return spot_of(s, 0, 0);
     }
+    spot_of(s, n, n - 1)
 }

@@ -22,7 +22,7 @@ use Rattle.deck.specs.Deck.{readAs, readBy, readDeck, deck-small}
 use Rattle.deck.specs.Written.{startOf}
 use Rattle.locate.specs.declared.Spot.{Spot}
 use Rattle.locate.specs.declared.Spot.the-variants as Spot
-use Rattle.locate.specs.Located.{located}
+use Rattle.locate.specs.Located.{located, spotSays}
 use Rattle.locate.specs.Steps.{Sound, sound-read, start-within}
 use Rattle.plan.specs.Edit.{Edit, Plan, refuse, edited, inRoom, plan, planBy, planned, says, leaves}
 
@@ -124,9 +124,9 @@ module _ (k : List Rule → ℕ) (edition n : ℕ) (d : List ℕ) where
         }
 
   module _ (e : Edit) {c : Spot} where
-    pub edit-no : {f : Fault} {q : ℕ} → c ≡ found k edition n d → c ≡ Spot.No f q → Edits edition n e d (Outcome.No f q) d
+    pub edit-no : {r : Outcome} {f : Fault} {q : ℕ} → c ≡ found k edition n d → c ≡ Spot.No f q → r ≡ spotSays c → Edits edition n e d r d
     unfolding found planned pick says leaves
-    edit-no {f} {q} g h = by (editionOf edition) (sym h ∙ g)
+    edit-no {r} {f} {q} g h i = let z = by (editionOf edition) (sym h ∙ g) in (i ∙ ap spotSays h ∙ z .0, z .1)
       where
         read : (p : Product) (a : Answer (List Rule)) → Spot.No f q ≡ located k a → (Outcome.No f q ≡ says (plan p (length d) e a)) × (d ≡ leaves n d (plan p (length d) e a))
         read p (got rs m) z = absurd (let u : _≡_ {A = ℕ} 0 1 = cc in omega arith)

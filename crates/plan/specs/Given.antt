@@ -9,14 +9,16 @@ use lib.ListN.{length}
 use borrow.Author.Tests.{eq-eqb, ne-eqb}
 use Rattle.format.specs.declared.Fault.{Fault}
 use Rattle.format.specs.declared.Fault.the-variants as Fault
+use Rattle.format.specs.declared.Outcome.{Outcome}
 use Rattle.format.specs.declared.Read.{Read}
 use Rattle.format.specs.declared.Read.the-variants as Read
+use Rattle.format.specs.Fault.{noRead}
 use Rattle.format.specs.Format.{Answer, got, refused, mapped, whole, pick}
 use Rattle.format.specs.Seen.{told, seen, none, told-got, told-no}
 use Rattle.kind.specs.declared.Product.{Product}
 use Rattle.kind.specs.declared.Row.{Row}
 use Rattle.kind.specs.declared.Row.the-variants as Row
-use Rattle.kind.specs.Kinds.{rowOf}
+use Rattle.kind.specs.Kinds.{rowOf, kindSays}
 use Rattle.kind.specs.declared.Kind.{Kind}
 use Rattle.element.specs.Data.{Data, dataOf}
 use Rattle.element.specs.Element.{Element}
@@ -53,9 +55,9 @@ text-even s h = rw (eq-eqb (length s % 2) 0 h)
 
 -- row is the row of the identifier
 module _ (p : Product) (id : ℕ) (s : List ℕ) {row : Row} where
-  pub given-none : {c : Fault} {q : ℕ} → row ≡ rowOf p id → row ≡ Row.No c q → Read.No c q ≡ told 0 none (given p id s)
+  pub given-none : {o : Outcome} {x : Read} {c : Fault} {q : ℕ} → row ≡ rowOf p id → row ≡ Row.No c q → o ≡ kindSays row → x ≡ noRead o → x ≡ told 0 none (given p id s)
   unfolding given told
-  given-none e h = rw (← e, h, zero-add)
+  given-none e h f g = g ∙ ap noRead (f ∙ ap kindSays h) ∙ rw (← e, h, zero-add)
 
   by : {k : Kind} → row ≡ rowOf p id → row ≡ Row.Is k → given p id s ≡ mapped (withData id) (whole (length s) (dataOf k .read s))
   unfolding given

@@ -4,19 +4,22 @@ use native.Mathlib.Omega.{arith}
 use mathlib.Core.Path.{_≡_, refl, sym, ap, _∙_}
 use mathlib.Core.List.{List, [], _∷_, _++_}
 use lib.ListN.{length, take, drop, length-drop}
+use Rattle.format.specs.declared.Fault.{Fault}
 use Rattle.format.specs.declared.Fault.the-variants as Fault
 use Rattle.format.specs.declared.Outcome.{Outcome}
 use Rattle.format.specs.declared.Outcome.the-variants as Outcome
+use Rattle.format.specs.declared.Read.{Read}
+use Rattle.format.specs.declared.Read.the-variants as Read
 use Rattle.format.specs.ReadWrite.{eachWrite}
 use Rattle.text.specs.Text.{string}
 use Rattle.kind.specs.declared.Product.{Product}
 use Rattle.rule.specs.Rule.{Rule}
 use Rattle.deck.specs.Written.{rules, startOf}
 use Rattle.locate.specs.Located.{lastOf}
-use Rattle.locate.specs.Steps.{Here, here, nameEnd}
+use Rattle.locate.specs.Steps.{Here, here, nameRead, nameEnd}
 use Rattle.plan.specs.Edit.{Edit, Plan, edited, atLast}
 use Rattle.plan.specs.Found.{MakesAs, Does}
-use Rattle.plan.specs.Makes.{name-ends, sound-small, replaced-long, at-last, no-last, made-no}
+use Rattle.plan.specs.Makes.{name-ends, name-there, sound-small, replaced-long, at-last, no-last, made-no}
 
 pub rules-none : (i : ℕ) → rules i [] ≡ []
 unfolding rules eachWrite
@@ -56,3 +59,8 @@ module _ (p : Product) (n m a : ℕ) (d : List ℕ) (e : Edit) (F : List Rule �
           let a′ : a ≡ startOf rs (m - 1) = ea ∙ ap (startOf rs) ek in
           let t′ : t ≡ startOf rs (m - 1) + 4 + length (string .write (h .r .name)) = g ∙ ap (nameEnd d) a′ ∙ name-ends n d h in
           rw (q rs, ek, at-last rs (m - 1) _ (h .from)) (f rs h (last-rule h (omega arith)) w (sound-small n d o) t′ a′)
+
+-- its name can be read
+pub last-unnamed : (p : Product) (n m a : ℕ) (d : List ℕ) (e : Edit) (r : Outcome) (d′ : List ℕ) {t : Read} {c : Fault} {q : ℕ} → (m ≡ 0 → ⊥) → t ≡ nameRead d a → t ≡ Read.No c q → MakesAs p lastOf n m a e d r d′
+unfolding MakesAs
+last-unnamed p n m a d e r d′ l f g rs o w em ea = name-there n d (here p (take n d) rs (length rs - 1) o (omega arith)) (f ∙ ap (nameRead d) ea) g

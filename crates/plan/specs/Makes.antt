@@ -11,6 +11,8 @@ use Rattle.format.specs.declared.Fault.{Fault}
 use Rattle.format.specs.declared.Fault.the-variants as Fault
 use Rattle.format.specs.declared.Outcome.{Outcome}
 use Rattle.format.specs.declared.Outcome.the-variants as Outcome
+use Rattle.format.specs.declared.Read.{Read}
+use Rattle.format.specs.declared.Read.the-variants as Read
 use Rattle.format.specs.Format.{Answer, got, refused, pick}
 use Rattle.format.specs.Written.{Held}
 use Rattle.text.specs.Text.{string}
@@ -22,10 +24,10 @@ use Rattle.deck.specs.Written.{written, written-is, before, rules, rules-cons, 
 use Rattle.deck.specs.Deck.{deck-small}
 use Rattle.buffer.specs.Laid.{laid}
 use Rattle.buffer.specs.Holds.{Holds}
-use Rattle.locate.specs.Steps.{Sound, Here, nameEnd, name-end}
+use Rattle.locate.specs.Steps.{Sound, Here, here, nameRead, nameEnd, name-end, name-never}
 use Rattle.plan.specs.Given.{isText}
-use Rattle.plan.specs.Edit.{Plan, become, refuse, refuseGiven, atRule, atLast, ifText, unlessFull, atGiven, room, says, leaves}
-use Rattle.plan.specs.Found.{Does}
+use Rattle.plan.specs.Edit.{Edit, Plan, become, refuse, refuseGiven, atRule, atLast, ifText, unlessFull, atGiven, room, says, leaves}
+use Rattle.plan.specs.Found.{Makes, Does}
 
 -- ---- the deck that is found
 
@@ -41,12 +43,21 @@ module _ (n : ℕ) (d : List ℕ) {p : Product} {rs : List Rule} where
   pub name-ends : {k : ℕ} (h : Here p (take n d) rs k) → nameEnd d (startOf rs k) ≡ startOf rs k + 4 + length (string .write (h .r .name))
   name-ends {k} h = name-end d (startOf rs k) p k (h .r) (here-in h)
 
+  -- its name can be read: t is what it was read as
+  pub name-there : {k : ℕ} {t : Read} {c : Fault} {q : ℕ} {B : Type 0} (h : Here p (take n d) rs k) → t ≡ nameRead d (startOf rs k) → t ≡ Read.No c q → B
+  name-there {k} h f g = name-never d (startOf rs k) f g p k (h .r) (here-in h)
+
   -- it is of at most 256 rules, and at most 60,000 bytes long
   pub sound-small : Sound p (take n d) rs → length rs ≤ 256
   sound-small o = deck-small p rs (o .fit)
 
   pub sound-short : n ≤ length d → Sound p (take n d) rs → n ≤ 60000
   sound-short l o = omega (arith, o .short, length-take-le n d l)
+
+-- so an edit of rule k is not refused there
+pub makes-unnamed : (edition k n m a b : ℕ) (e : Edit) (d : List ℕ) (r : Outcome) (d′ : List ℕ) {t : Read} {c : Fault} {q : ℕ} → k < m → t ≡ nameRead d a → t ≡ Read.No c q → Makes edition (λ rs. k) n m a b e d r d′
+unfolding Makes
+makes-unnamed edition k n m a b e d r d′ l f g p rs x o w em ea eb = name-there n d (here p (take n d) rs k o (omega arith)) (f ∙ ap (nameRead d) ea) g
 
 -- ---- the deck of the edited list: rule k becomes x
 pub replaced-long : (rs later : List Rule) (k : ℕ) (r x : Rule) → drop k rs ≡ r ∷ later → length (take k rs ++ (x ∷ later)) ≡ length rs

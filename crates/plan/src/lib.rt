@@ -53,17 +53,15 @@ pub fn given_element(product: Product, identifier: u32, s: &[u8]) -> Read
     ensures { λ r. ⌜ r ≡ told 0 none (given product identifier (now (s .entry))) ⌝ }
 {
     let row = row::row_for(product, identifier as u64);
-    match row {
-        Row::No(c, p) => Read::No(c, p),
-        Row::Is(kind) => {
-            let r = element::data_at(s, 0, kind);
-            let Read::Got(_, e) = r else {
-                return r;
-            };
-            if e != s.len() {
-                return Read::No(Fault::Over, e);
-            }
-            Read::Got(0, e)
-        }
+    let Row::Is(kind) = row else {
+        return format::no_read(kind::kind_says(row));
+    };
+    let r = element::data_at(s, 0, kind);
+    let Read::Got(_, e) = r else {
+        return r;
+    };
+    if e != s.len() {
+        return Read::No(Fault::Over, e);
     }
+    Read::Got(0, e)
 }

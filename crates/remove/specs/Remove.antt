@@ -28,11 +28,11 @@ use Rattle.buffer.specs.Laid.{putIn, opened, moved, down}
 use Rattle.buffer.specs.Holds.{Holds, Gap, holds-start, holds-put, holds-down, holds-open, holds-fill}
 use Rattle.locate.specs.declared.Spot.{Spot}
 use Rattle.locate.specs.declared.Spot.the-variants as Spot
-use Rattle.locate.specs.Steps.{Here, here, nameEnd, name-end, size-read, size-is}
+use Rattle.locate.specs.Steps.{Here, here, nameRead, nameEnd, name-end, size-read, size-is}
 use Rattle.plan.specs.Edit.{remove, edited, become}
 use Rattle.plan.specs.Found.{Makes, Does, found, ground, Ground}
 use Rattle.plan.specs.Last.{rules-none}
-use Rattle.plan.specs.Makes.{here-in, name-ends, sound-small, sound-short, at-rule, no-rule, made-no, made-is}
+use Rattle.plan.specs.Makes.{here-in, name-ends, name-there, sound-small, sound-short, at-rule, no-rule, made-no, made-is}
 use Rattle.parts.specs.Head.{head-long, head-short}
 
 -- ---- a rule that is not the first, or is the only one
@@ -225,10 +225,17 @@ module _ (edition n k m a b e : ℕ) (d : List ℕ) where
           let j : e ≡ startOf (o .rs) 1 + 4 + length (string .write (h .r .name)) = rw eb at z ∙ name-ends n d h in
           record { many = l; wide = omega (arith, i .0, eb); order = omega (arith, j, eb); inside = omega (arith, i .1, j); room = o .within; short = omega (arith, o .sound .short, length-take-le n d (o .within)) }
 
-  -- Data Size can be read
-  pub remove-unread : {z : Read} {c : Fault} {q : ℕ} → k ≡ 0 → 1 < m → e ≡ nameEnd d b → z ≡ seen itself (number 4) d (e + 20) → z ≡ No c q → Makes edition (λ rs. k) n m a b (remove k) d (Outcome.No Fault.Absent 0) d
+  -- the name of the rule behind it can be read, and its Data Size
+  pub remove-unnamed : (r : Outcome) (d′ : List ℕ) {t : Read} {c : Fault} {q : ℕ} → k ≡ 0 → 1 < m → t ≡ nameRead d b → t ≡ No c q → Makes edition (λ rs. k) n m a b (remove k) d r d′
   unfolding Makes
-  remove-unread ek l ee ez x p rs f o w em ea eb =
+  remove-unnamed r d′ ek l f g p rs x o w em ea eb =
+      let h = here p (take n d) rs 1 o (omega arith) in
+      let eb′ : b ≡ startOf rs 1 = rw ek at eb in
+      name-there n d h (f ∙ ap (nameRead d) eb′) g
+
+  pub remove-unread : (r : Outcome) (d′ : List ℕ) {z : Read} {c : Fault} {q : ℕ} → k ≡ 0 → 1 < m → e ≡ nameEnd d b → z ≡ seen itself (number 4) d (e + 20) → z ≡ No c q → Makes edition (λ rs. k) n m a b (remove k) d r d′
+  unfolding Makes
+  remove-unread r d′ ek l ee ez x p rs f o w em ea eb =
       let h = here p (take n d) rs 1 o (omega arith) in
       let eb′ : b ≡ startOf rs 1 = rw ek at eb in
       unlike (size-read d b p 1 (h .r) (rw eb′ (here-in n d h)) ee ez) x

@@ -49,7 +49,7 @@ fn remove_first(buf: &mut [u8], n: usize, m: u64, b: usize, e: usize) -> Outcome
 {
     let z = wire::u32_at(buf, e + 20);
     let Read::Got(size, _) = z else {
-        return Outcome::No(Fault::Absent, 0);
+        return format::end_says(z);
     };
     lead(buf, n, b, e + 26, size);
     one_less(buf, m);
@@ -61,20 +61,21 @@ pub fn remove(edition: u64, buf: &mut [u8], n: usize, k: u64) -> Outcome
     ensures { λ r. ⌜ Edits edition n (remove k) (now (buf .entry)) r (now (buf .exit)) ⌝ }
 {
     let f = plan::find(edition, buf, n, k);
-    match f {
-        Spot::No(c, p) => Outcome::No(c, p),
-        Spot::Is(m, a, b) => {
-            if m <= k {
-                return Outcome::No(Fault::Absent, 0);
-            }
-            if 0 < k {
-                return remove_other(buf, n, m, a, b);
-            }
-            if m == 1 {
-                return remove_other(buf, n, m, a, b);
-            }
-            let e = locate::name_end(buf, b);
-            remove_first(buf, n, m, b, e)
-        }
+    let Spot::Is(m, a, b) = f else {
+        return locate::spot_says(f);
+    };
+    if m <= k {
+        return Outcome::No(Fault::Absent, 0);
     }
+    if 0 < k {
+        return remove_other(buf, n, m, a, b);
+    }
+    if m == 1 {
+        return remove_other(buf, n, m, a, b);
+    }
+    let t = locate::name_end(buf, b);
+    let Read::Got(_, e) = t else {
+        return format::end_says(t);
+    };
+    remove_first(buf, n, m, b, e)
 }

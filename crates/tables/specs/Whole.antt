@@ -24,20 +24,11 @@ use Rattle.kind.specs.Kinds.{editionOf}
 use Rattle.rule.specs.Rule.{Rule, rule, elementsIn}
 use Rattle.deck.specs.declared.Scan.{Scan}
 use Rattle.deck.specs.declared.Scan.the-variants as Scan
-use Rattle.deck.specs.Deck.{deck-row, readAs, readBy, readDeck, scanned, read-writes-back, deck-small}
+use Rattle.deck.specs.Deck.{deck-row, readAs, readBy, readDeck, scanned, read-writes-back, deck-small, scanSays}
 use Rattle.tables.specs.Tables.{ruleWidth, elementWidth, ruleRows, allElementRows, inTables, tabled, rulesLeft, elementsLeft, readSays, rulesAfter, elementsAfter}
 use Rattle.buffer.specs.Laid.{put}
 use Rattle.tables.specs.Fill.{put-front}
 use Rattle.tables.specs.Parts.{RulesFill, rule-rows-long, all-rows-long}
-
--- a refusal of the pass, and one of the second pass, as the answer of a read
-abbrev pub scanAnswer : Scan → Outcome
-scanAnswer (Scan.Is n m) = Done n
-scanAnswer (Scan.No c q) = No c q
-
-abbrev pub readAnswer : Read → Outcome
-readAnswer (Read.Got n m) = Done n
-readAnswer (Read.No c q) = No c q
 
 -- what the first pass tells
 record Tells (p : Product) (s : List ℕ) (n m : ℕ) : Type 0 where
@@ -87,8 +78,8 @@ module _ (edition : ℕ) (s : List ℕ) {d : Edition} (f : d ≡ editionOf editi
       answered-as w o = rw (← f, h, w) o
 
       -- it was handed on
-      pub read-refused : {k : Fault} {q : ℕ} {r : Outcome} → c ≡ Scan.No k q → r ≡ scanAnswer c → Promise (editionOf edition) s t t e e r
-      read-refused {k} {q} i y = rw (y ∙ ap scanAnswer i) (go (readAs p s) refl (sym i ∙ scan-as))
+      pub read-refused : {k : Fault} {q : ℕ} {r : Outcome} → c ≡ Scan.No k q → r ≡ scanSays c → Promise (editionOf edition) s t t e e r
+      read-refused {k} {q} i y = rw (y ∙ ap scanSays i) (go (readAs p s) refl (sym i ∙ scan-as))
         where
           go : (a : Answer (List Rule)) → readAs p s ≡ a → Scan.No k q ≡ scanned a → Promise (editionOf edition) s t t e e (No k q)
           go (got rs m) w z = absurd (let x : _≡_ {A = ℕ} 0 1 = cc in omega arith)

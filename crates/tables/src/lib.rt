@@ -15,7 +15,6 @@ ghost use Rattle.tables.specs.Tables.{inTables, readSays, rulesAfter, el
 ghost use Rattle.buffer.specs.Laid.{put};
 ghost use Rattle.tables.specs.Fill.{Small, Under, ElementsFill};
 ghost use Rattle.tables.specs.Parts.{BodyFill, PartFill, RuleFill, RulesFill};
-ghost use Rattle.tables.specs.Whole.{scanAnswer, readAnswer};
 
 // The numbers of a row.
 const RULE_WIDTH: usize = 4;
@@ -211,26 +210,6 @@ fn room(n: u64, m: u64, rules: usize, elements: usize) -> Outcome
     Outcome::Done(n as usize)
 }
 
-// What a pass over a deck tells, as an answer: its number of rules, or its refusal.
-fn scan_answer(scan: Scan) -> Outcome
-    ensures { λ r. ⌜ r ≡ scanAnswer scan ⌝ }
-{
-    match scan {
-        Scan::Is(n, _) => Outcome::Done(n as usize),
-        Scan::No(c, p) => Outcome::No(c, p),
-    }
-}
-
-// What was read, as an answer: its value, or its refusal.
-fn read_answer(r: Read) -> Outcome
-    ensures { λ x. ⌜ x ≡ readAnswer r ⌝ }
-{
-    match r {
-        Read::Got(n, _) => Outcome::Done(n as usize),
-        Read::No(c, p) => Outcome::No(c, p),
-    }
-}
-
 // Reads a deck into two tables: the number of rules; or a refusal, with both tables as found.
 pub fn read(edition: u64, s: &[u8], rules: &mut [u32], elements: &mut [u32]) -> Outcome
     ensures { λ r. ⌜ (r ≡ readSays (editionOf edition) (length (now (rules .entry))) (length (now (elements .entry))) (now (s .entry))) × ((now (rules .exit) ≡ rulesAfter (editionOf edition) (now (s .entry)) (now (rules .entry)) (now (elements .entry))) × (now (elements .exit) ≡ elementsAfter (editionOf edition) (now (s .entry)) (now (rules .entry)) (now (elements .entry)))) ⌝ }
@@ -241,7 +220,7 @@ pub fn read(edition: u64, s: &[u8], rules: &mut [u32], elements: &mut [u32]) -> 
     };
     let scan = deck::pass(edition, s);
     let Scan::Is(n, m) = scan else {
-        return scan_answer(scan);
+        return deck::scan_says(scan);
     };
     let o = room(n, m, rules.len(), elements.len());
     let Outcome::Done(_) = o else {
@@ -249,7 +228,7 @@ pub fn read(edition: u64, s: &[u8], rules: &mut [u32], elements: &mut [u32]) -> 
     };
     let r = fill_rules(s, product, n, rules, elements);
     let Read::Got(_, _) = r else {
-        return read_answer(r);
+        return format::end_says(r);
     };
     o
 }

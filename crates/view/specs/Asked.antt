@@ -6,6 +6,8 @@ use mathlib.Core.List.{List, [], _∷_}
 use lib.ListN.{length, drop, length-drop, drop-of-length-le}
 use Rattle.format.specs.declared.Fault.{Fault}
 use Rattle.format.specs.declared.Fault.the-variants as Fault
+use Rattle.format.specs.declared.Read.{Read}
+use Rattle.format.specs.declared.Read.the-variants as Read
 use Rattle.format.specs.Format.{Answer, got, refused, Bytes}
 use Rattle.format.specs.Back.{Where}
 use Rattle.kind.specs.declared.Product.{Product}
@@ -17,7 +19,7 @@ use Rattle.deck.specs.declared.Scan.{Scan}
 use Rattle.deck.specs.declared.Scan.the-variants as Scan
 use Rattle.deck.specs.Deck.{readAs, readBy, readDeck, scanned}
 use Rattle.deck.specs.Written.{startOf}
-use Rattle.locate.specs.Steps.{Sound, sound-read, Here, here, here-stands, Reached, reached-is}
+use Rattle.locate.specs.Steps.{Sound, sound-read, Here, here, here-stands, Reached, reached-is, reached-never}
 
 -- how a refusal is said, and what is told of a rule that starts at a place
 module _ {W : Type 0} (no : Fault → ℕ → W) where
@@ -49,12 +51,17 @@ Finds p s k f v = (rs : List Rule) → Sound p s rs → (h : Here p s rs k) → 
 abbrev pub Tells : {W : Type 0} → List ℕ → ℕ → (ℕ → Rule → W) → W → Type 0
 Tells s k f v = (p : Product) → Finds p s k f v
 
--- it is told of the rule where the code went
-pub finds : {W : Type 0} (p : Product) (s : List ℕ) (k at : ℕ) (f : ℕ → Rule → W) (v : W) → Reached s k k at → Where (rule p k) s at (f at) v → Finds p s k f v
-unfolding Finds Where
-finds p s k at f v w g rs o h =
-    let e : at ≡ startOf rs k = reached-is s k k at p rs w o (omega (arith, length-drop k rs, ap length (h .from))) in
-    g (h .r) (rw e (here-stands p s rs k h)) ∙ ap (λ (a : ℕ). f a (h .r)) e
+-- it is told of the rule where the code went: r is what was told of its start
+module _ {W : Type 0} (p : Product) (s : List ℕ) (k : ℕ) (f : ℕ → Rule → W) (v : W) {r : Read} where
+  pub finds : {u at : ℕ} → Reached s k k r → r ≡ Read.Got u at → Where (rule p k) s at (f at) v → Finds p s k f v
+  unfolding Finds Where
+  finds {at = at} w i g rs o h =
+      let e : at ≡ startOf rs k = reached-is s k k w p rs o (omega (arith, length-drop k rs, ap length (h .from))) i in
+      g (h .r) (rw e (here-stands p s rs k h)) ∙ ap (λ (a : ℕ). f a (h .r)) e
+
+  pub finds-never : {c : Fault} {q : ℕ} → Reached s k k r → r ≡ Read.No c q → Finds p s k f v
+  unfolding Finds
+  finds-never w i rs o h = reached-never s k k w p rs o (omega (arith, length-drop k rs, ap length (h .from))) i
 
 -- the product is that of the edition
 pub by-product : {W : Type 0} (f : Product → ℕ → Rule → W) (edition k : ℕ) (s : List ℕ) (v : W) {e : Edition} {p : Product} → e ≡ editionOf edition → e ≡ Edition.Of p → Finds p s k (f p) v → (q : Product) → editionOf edition ≡ Edition.Of q → Finds q s k (f q) v

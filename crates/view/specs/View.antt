@@ -10,13 +10,12 @@ use Rattle.format.specs.declared.Outcome.{Outcome}
 use Rattle.format.specs.declared.Outcome.the-variants as Outcome
 use Rattle.format.specs.declared.Read.{Read}
 use Rattle.format.specs.declared.Read.the-variants as Read
-use Rattle.format.specs.Seen.{seen}
-use Rattle.format.specs.Back.{Where, stands-seen, stands-room}
+use Rattle.format.specs.Back.{Where, stands-room}
 use Rattle.text.specs.Text.{stringLength, string, string-length}
 use Rattle.rule.specs.Rule.{Rule, rule}
 use Rattle.rule.specs.Places.{unitsAt, rule-parts}
-use Rattle.locate.specs.Steps.{Reached}
-use Rattle.view.specs.Asked.{asked, Tells, finds}
+use Rattle.locate.specs.Steps.{Reached, nameRead, name-read}
+use Rattle.view.specs.Asked.{asked, Tells, finds, finds-never}
 use Rattle.view.specs.declared.View.{View}
 use Rattle.view.specs.declared.View.the-variants.{At, No}
 
@@ -44,6 +43,12 @@ PartOf v xs at ys from = (ys ≡ shown v xs) × (from ≡ (at .0, shownFrom v + 
 abbrev pub viewSays : View → Outcome
 viewSays (At a n) = Outcome.Done a
 viewSays (No c q) = Outcome.No c q
+
+-- a refusal as that of a view
+unfoldable pub noView : Outcome → View
+noView (Outcome.Done n) = At 0 0
+noView (Outcome.No c q) = No c q
+noView (Outcome.Given c q) = No c q
 
 -- ---- as the code finds it
 
@@ -82,16 +87,30 @@ module _ (len : ℕ) {t : Read} where
       let z : q + length (string .write us) - 2 * length us ≡ q + length (stringLength .write (length us)) = omega arith in
       w (length us) (q + length (string .write us)) e (omega arith) l ∙ ap (λ (a : ℕ). At a (2 * length us)) z
 
-module _ (s : List ℕ) (k at : ℕ) where
-  pub name-past : (v : View) → Reached s k k at → length s - at < 4 → Tells s k nameAt v
-  unfolding Where
-  name-past v w l p = finds p s k at nameAt v w (λ r b. absurd (omega (arith, stands-room (rule p k) s at (b .1), rule-parts p k s at r (b .0) (b .1) .ends)))
+-- r is what was told of the rule's start, t what its name was read as
+module _ (s : List ℕ) (k : ℕ) (v : View) {r : Read} where
+  pub name-unreached : {c : Fault} {q : ℕ} → Reached s k k r → r ≡ Read.No c q → Tells s k nameAt v
+  name-unreached w i p = finds-never p s k nameAt v w i
 
-  pub name-is : {t : Read} (v : View) → Reached s k k at → t ≡ seen length string s (at + 4) → Units (length s) t v → Tells s k nameAt v
+  pub name-is : {u at : ℕ} {t : Read} → Reached s k k r → r ≡ Read.Got u at → t ≡ nameRead s at → Units (length s) t v → Tells s k nameAt v
   unfolding Where
-  name-is v w e h p = finds p s k at nameAt v w (λ r b.
-      let y = rule-parts p k s at r (b .0) (b .1) in
-      units-of (length s) v (at + 4) (r .name) h (e ∙ stands-seen length string s (at + 4) (y .named .1)) (omega (arith, stands-room (rule p k) s at (b .1), y .ends)))
+  name-is {at = at} w i e h p = finds p s k nameAt v w i (λ x b.
+      let y = rule-parts p k s at x (b .0) (b .1) in
+      units-of (length s) v (at + 4) (x .name) h (e ∙ name-read s at p k x b) (omega (arith, stands-room (rule p k) s at (b .1), y .ends)))
+
+-- a refusal handed on
+pub view-hands : {o : Outcome} {v : View} {c : Fault} {q : ℕ} → o ≡ Outcome.No c q → v ≡ noView o → v ≡ No c q
+unfolding noView
+view-hands e f = f ∙ ap noView e
+
+pub no-inside : (len : ℕ) (o : Outcome) {v : View} → v ≡ noView o → Inside v len
+unfolding noView
+no-inside len o e = rw e (go o)
+  where
+    go : (o : Outcome) → Inside (noView o) len
+    go (Outcome.Done n) = omega arith
+    go (Outcome.No c q) = tt
+    go (Outcome.Given c q) = tt
 
 -- what a view that was found tells
 pub inside-at : {v : View} {a n : ℕ} (len : ℕ) → Inside v len → v ≡ At a n → a + n ≤ len

@@ -13,7 +13,7 @@ use Rattle.format.specs.Combinators.{number}
 use Rattle.format.specs.Seen.{seen, itself}
 use Rattle.format.specs.Written.{Row}
 use Rattle.format.specs.Back.{Where, stands-seen, stands-room, back-got, back-no}
-use Rattle.format.specs.Skip.{startIn, Skipped, nth}
+use Rattle.format.specs.Skip.{startIn, Skipped, skip-is, skip-never, nth}
 use Rattle.text.specs.Text.{stringLength, string, word, word-length}
 use Rattle.kind.specs.declared.Product.{Product}
 use Rattle.kind.specs.declared.Kind.{Kind}
@@ -21,7 +21,7 @@ use Rattle.element.specs.Data.{Data, wordsOf, wordData, dataOf, Other, words-no
 use Rattle.element.specs.Element.{Element}
 use Rattle.rule.specs.Rule.{Rule, rule, placed}
 use Rattle.rule.specs.Places.{elementsAt}
-use Rattle.walk.specs.Elements.{Elements, ofFirst, ofElement, Carries, elements-none, elements-are, of-element}
+use Rattle.walk.specs.Elements.{Elements, ofFirst, ofElement, Carries, elements-none, elements-are, element-never, of-element}
 use Rattle.view.specs.Asked.{asked}
 use Rattle.view.specs.View.{Units, units-of}
 use Rattle.view.specs.declared.View.{View}
@@ -53,10 +53,15 @@ wordView edition k e w s = asked No (ruleWord k e w) edition k s
 unfoldable pub Words : List ℕ → ℕ → ℕ → View → Type 0
 Words s at w v = (ws : List (List ℕ)) (t : List ℕ) → Row (λ i. word) s 0 at ws t → w < length ws → v ≡ wordAt (startIn (λ i. word) at ws w) (drop w ws)
 
-pub word-is : (s : List ℕ) (at w q : ℕ) (v : View) {r : Read} → Skipped (λ i. word) s at w w q → r ≡ seen length word s q → Units (length s) r v → Words s at w v
-unfolding Words Skipped
-word-is s at w q v {r} k e h ws t row l =
-    let n = nth (λ i. word) s at w q ws t (k ws t row (omega arith)) row l in
+-- z is what was told of its start
+pub word-never : (s : List ℕ) (at w : ℕ) (v : View) {z : Read} {c : Fault} {o : ℕ} → Skipped (λ i. word) s at w w z → z ≡ Read.No c o → Words s at w v
+unfolding Words
+word-never s at w v k j ws t row l = skip-never (λ i. word) s at w w k ws t row (omega arith) j
+
+pub word-is : (s : List ℕ) (at w : ℕ) (v : View) {z r : Read} {u q : ℕ} → Skipped (λ i. word) s at w w z → z ≡ Read.Got u q → r ≡ seen length word s q → Units (length s) r v → Words s at w v
+unfolding Words
+word-is s at w v {r = r} {q = q} k j e h ws t row l =
+    let n = nth (λ i. word) s at w q ws t (skip-is (λ i. word) s at w w k ws t row (omega arith) j) row l in
     let us = n .x in
     let m = word-length us in
     let o : q + length (word .write us) ≡ q + 4 + length (string .write us) = omega arith in
@@ -104,6 +109,11 @@ module _ (p : Product) (s : List ℕ) (at k e w : ℕ) {c : Read} (i : Elements 
         let d : drop e (x .elements) ≡ [] = drop-of-length-le (x .elements) {i = e} (omega (arith, elements-are p s at k x b i h .0)) in
         ap (elementWord e w (startIn (placed p) (elementsAt p k at x) (x .elements) e)) (sym d)
 
-    pub rule-is : (v : View) (o : ℕ) → e < n → Skipped (placed p) s q e e o → Carries p s o e (dataWord w) v → Where (rule p k) s at (ruleWord k e w p at) v
+    -- z is what was told of the element's start
+    pub rule-never : (v : View) {z : Read} {f : Fault} {o : ℕ} → e < n → Skipped (placed p) s q e e z → z ≡ Read.No f o → Where (rule p k) s at (ruleWord k e w p at) v
     unfolding Where
-    rule-is v o l g m x b = of-element p s at k x b i h (No Fault.Absent 1) (dataWord w) e o v l g m
+    rule-never v l g j x b = element-never p s at k x b i h e _ l g j
+
+    pub rule-is : (v : View) {z : Read} {u o : ℕ} → e < n → Skipped (placed p) s q e e z → z ≡ Read.Got u o → Carries p s o e (dataWord w) v → Where (rule p k) s at (ruleWord k e w p at) v
+    unfolding Where
+    rule-is v l g j m x b = of-element p s at k x b i h e _ l g (No Fault.Absent 1) (dataWord w) v j m

@@ -18,9 +18,9 @@ ghost use Rattle.element.specs.Data.{wordData, dataOf};
 ghost use Rattle.rule.specs.Rule.{rule};
 ghost use Rattle.walk.specs.Elements.{Carries};
 ghost use Rattle.view.specs.Asked.{Finds, Tells};
-ghost use Rattle.view.specs.Fixed.{Number, fixedAt, fixedFields};
+ghost use Rattle.view.specs.Fixed.{Kept, fixedAt, fixedFields, fieldsSay, fieldsAnswer, noFields};
 ghost use Rattle.view.specs.Word.{Words, dataWord, ruleWord, wordView};
-ghost use Rattle.view.specs.View.{Units, Inside, nameAt, nameView, PartOf, viewSays};
+ghost use Rattle.view.specs.View.{Units, Inside, nameAt, nameView, PartOf, viewSays, noView};
 
 // What a view answers: its first byte and how many bytes it is; or a fault with its place.
 pub enum View {
@@ -28,12 +28,23 @@ pub enum View {
     No(Fault, usize),
 }
 
+// A refusal as that of a view.
+fn no_view(o: Outcome) -> View
+    ensures { λ v. ⌜ v ≡ noView o ⌝ }
+{
+    match o {
+        Outcome::Done(_) => View::At(0, 0),
+        Outcome::No(c, p) => View::No(c, p),
+        Outcome::Given(c, p) => View::No(c, p),
+    }
+}
+
 // The units of a String that was read: they end where it ends.
 fn units_of(s: &[u8], t: Read) -> View
     ensures { λ v. ⌜ Units (length (now (s .entry))) t v × Inside v (length (now (s .entry))) ⌝ }
 {
     let Read::Got(n, e) = t else {
-        return View::No(Fault::Cut, 0);
+        return no_view(format::end_says(t));
     };
     let units = n as usize;
     if s.len() < e {
@@ -49,11 +60,11 @@ fn units_of(s: &[u8], t: Read) -> View
 fn name_at(s: &[u8], k: u64) -> View
     ensures { λ v. ⌜ Tells (now (s .entry)) k nameAt v × Inside v (length (now (s .entry))) ⌝ }
 {
-    let at = locate::start_of(s, k);
-    if wire::left(s, at) < 4 {
-        return View::No(Fault::Cut, at);
-    }
-    let t = text::string_at(s, at + 4);
+    let r = locate::start_of(s, k);
+    let Read::Got(_, at) = r else {
+        return no_view(format::end_says(r));
+    };
+    let t = locate::name_end(s, at);
     units_of(s, t)
 }
 
@@ -62,15 +73,13 @@ pub fn find_name(edition: u64, s: &[u8], k: u64) -> View
     ensures { λ v. ⌜ (v ≡ nameView edition k (now (s .entry))) × Inside v (length (now (s .entry))) ⌝ }
 {
     let c = deck::pass(edition, s);
-    match c {
-        Scan::No(d, p) => View::No(d, p),
-        Scan::Is(n, _) => {
-            if n <= k {
-                return View::No(Fault::Absent, 0);
-            }
-            name_at(s, k)
-        }
+    let Scan::Is(n, _) = c else {
+        return no_view(deck::scan_says(c));
+    };
+    if n <= k {
+        return View::No(Fault::Absent, 0);
     }
+    name_at(s, k)
 }
 
 // The part of a slice that a view within it shows; the empty part at the start where it is refused.
@@ -114,7 +123,7 @@ pub fn name_place(edition: u64, s: &[u8], k: u64) -> Outcome
 // What follows finds a word in a sound deck.
 
 // Where word w of a row of words starts.
-fn word_start(s: &[u8], at: usize, w: u64) -> usize
+fn word_start(s: &[u8], at: usize, w: u64) -> Read
     ensures { λ r. ⌜ Skipped (λ i. word) (now (s .entry)) at w w r ⌝ }
 {
     let mut i = 0;
@@ -122,19 +131,22 @@ fn word_start(s: &[u8], at: usize, w: u64) -> usize
     while i < w {
         let r = text::word_at(s, p);
         let Read::Got(_, q) = r else {
-            return 0;
+            return r;
         };
         p = q;
         i += 1;
     }
-    p
+    Read::Got(0, p)
 }
 
 // Word w of a row of words.
 fn word_in(s: &[u8], at: usize, w: u64) -> View
     ensures { λ v. ⌜ Words (now (s .entry)) at w v × Inside v (length (now (s .entry))) ⌝ }
 {
-    let q = word_start(s, at, w);
+    let r = word_start(s, at, w);
+    let Read::Got(_, q) = r else {
+        return no_view(format::end_says(r));
+    };
     let t = text::word_at(s, q);
     units_of(s, t)
 }
@@ -145,7 +157,7 @@ fn list_word(s: &[u8], at: usize, w: u64) -> View
 {
     let c = wire::u32_at(s, at);
     let Read::Got(n, p) = c else {
-        return View::No(Fault::Cut, at);
+        return no_view(format::end_says(c));
     };
     if n <= w {
         return View::No(Fault::Absent, 2);
@@ -172,11 +184,11 @@ fn element_word(s: &[u8], at: usize, product: Product, e: u64, w: u64) -> View
 {
     let r = walk::identifier_at(s, at, e);
     let Read::Got(id, q) = r else {
-        return View::No(Fault::Cut, at);
+        return no_view(format::end_says(r));
     };
     let row = row::row_for(product, id);
     let Row::Is(kind) = row else {
-        return View::No(Fault::Cut, at);
+        return no_view(kind::kind_says(row));
     };
     data_word(s, q, kind, w)
 }
@@ -187,12 +199,15 @@ fn rule_word(s: &[u8], at: usize, product: Product, k: u64, e: u64, w: u64) -> V
 {
     let c = walk::elements_of(s, at, k);
     let Read::Got(n, p) = c else {
-        return View::No(Fault::Cut, at);
+        return no_view(format::end_says(c));
     };
     if n <= e {
         return View::No(Fault::Absent, 1);
     }
-    let q = walk::element_start(s, p, product, e);
+    let r = walk::element_start(s, p, product, e);
+    let Read::Got(_, q) = r else {
+        return no_view(format::end_says(r));
+    };
     element_word(s, q, product, e, w)
 }
 
@@ -200,7 +215,10 @@ fn rule_word(s: &[u8], at: usize, product: Product, k: u64, e: u64, w: u64) -> V
 fn word_of(s: &[u8], product: Product, k: u64, e: u64, w: u64) -> View
     ensures { λ v. ⌜ Finds product (now (s .entry)) k (ruleWord k e w product) v × Inside v (length (now (s .entry))) ⌝ }
 {
-    let at = locate::start_of(s, k);
+    let r = locate::start_of(s, k);
+    let Read::Got(_, at) = r else {
+        return no_view(format::end_says(r));
+    };
     rule_word(s, at, product, k, e, w)
 }
 
@@ -213,15 +231,13 @@ pub fn find_word(edition: u64, s: &[u8], k: u64, e: u64, w: u64) -> View
         return View::No(Fault::Edition, 0);
     };
     let c = deck::pass(edition, s);
-    match c {
-        Scan::No(f, p) => View::No(f, p),
-        Scan::Is(n, _) => {
-            if n <= k {
-                return View::No(Fault::Absent, 0);
-            }
-            word_of(s, product, k, e, w)
-        }
+    let Scan::Is(n, _) = c else {
+        return no_view(deck::scan_says(c));
+    };
+    if n <= k {
+        return View::No(Fault::Absent, 0);
     }
+    word_of(s, product, k, e, w)
 }
 
 // That word as a part of the deck's bytes.
@@ -246,48 +262,80 @@ pub enum Fielded {
     No(Fault, usize),
 }
 
-// The number of four bytes at a place of a sound deck.
-fn number_at(s: &[u8], at: usize) -> u32
-    ensures { λ r. ⌜ Number (now (s .entry)) at r ⌝ }
+// A refusal as that of fixed fields.
+fn no_fields(o: Outcome) -> Fielded
+    ensures { λ v. ⌜ v ≡ noFields o ⌝ }
 {
-    let r = wire::u32_at(s, at);
-    let Read::Got(v, _) = r else {
-        return 0;
+    match o {
+        Outcome::Done(n) => Fielded::No(Fault::Absent, n),
+        Outcome::No(c, p) => Fielded::No(c, p),
+        Outcome::Given(c, p) => Fielded::No(c, p),
+    }
+}
+
+// The fixed fields of a rule of a sound deck: its signature was read, Enabled and Unknown2 to Unknown5 stand from a place on.
+fn kept_at(s: &[u8], at: usize, signature: u64) -> Fielded
+    ensures { λ v. ⌜ Kept (now (s .entry)) at signature v ⌝ }
+{
+    let a = wire::u32_at(s, at);
+    let Read::Got(on, p) = a else {
+        return no_fields(format::end_says(a));
     };
-    (v % 0x1_0000_0000) as u32
+    let b = wire::u32_at(s, p);
+    let Read::Got(unknown2, q) = b else {
+        return no_fields(format::end_says(b));
+    };
+    let c = wire::u32_at(s, q);
+    let Read::Got(unknown3, r) = c else {
+        return no_fields(format::end_says(c));
+    };
+    let d = wire::u32_at(s, r);
+    let Read::Got(unknown4, t) = d else {
+        return no_fields(format::end_says(d));
+    };
+    let e = wire::u32_at(s, t);
+    let Read::Got(unknown5, _) = e else {
+        return no_fields(format::end_says(e));
+    };
+    Fielded::Is(Fields {
+        signature: (signature % 0x1_0000_0000) as u32,
+        on: on == 1,
+        unknown2: (unknown2 % 0x1_0000_0000) as u32,
+        unknown3: (unknown3 % 0x1_0000_0000) as u32,
+        unknown4: (unknown4 % 0x1_0000_0000) as u32,
+        unknown5: (unknown5 % 0x1_0000_0000) as u32,
+    })
 }
 
 // The fixed fields of rule k of a sound deck.
 fn fields_at(s: &[u8], k: u64) -> Fielded
     ensures { λ v. ⌜ Tells (now (s .entry)) k fixedAt v ⌝ }
 {
-    let at = locate::start_of(s, k);
-    let e = locate::name_end(s, at);
-    if wire::left(s, e) < 20 {
-        return Fielded::No(Fault::Cut, at);
-    }
-    Fielded::Is(Fields {
-        signature: number_at(s, at),
-        on: number_at(s, e) == 1,
-        unknown2: number_at(s, e + 4),
-        unknown3: number_at(s, e + 8),
-        unknown4: number_at(s, e + 12),
-        unknown5: number_at(s, e + 16),
-    })
+    let r = locate::start_of(s, k);
+    let Read::Got(_, at) = r else {
+        return no_fields(format::end_says(r));
+    };
+    let g = wire::u32_at(s, at);
+    let Read::Got(signature, _) = g else {
+        return no_fields(format::end_says(g));
+    };
+    let t = locate::name_end(s, at);
+    let Read::Got(_, e) = t else {
+        return no_fields(format::end_says(t));
+    };
+    kept_at(s, e, signature)
 }
 
 // The fixed fields of rule k.
 pub fn fixed(edition: u64, s: &[u8], k: u64) -> Fielded
-    ensures { λ v. ⌜ v ≡ fixedFields edition k (now (s .entry)) ⌝ }
+    ensures { λ v. ⌜ (v ≡ fixedFields edition k (now (s .entry))) × (fieldsSay v ≡ fieldsAnswer edition k (now (s .entry))) ⌝ }
 {
     let c = deck::pass(edition, s);
-    match c {
-        Scan::No(d, p) => Fielded::No(d, p),
-        Scan::Is(n, _) => {
-            if n <= k {
-                return Fielded::No(Fault::Absent, 0);
-            }
-            fields_at(s, k)
-        }
+    let Scan::Is(n, _) = c else {
+        return no_fields(deck::scan_says(c));
+    };
+    if n <= k {
+        return Fielded::No(Fault::Absent, 0);
     }
+    fields_at(s, k)
 }

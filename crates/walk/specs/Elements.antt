@@ -12,7 +12,7 @@ use Rattle.format.specs.Combinators.{number}
 use Rattle.format.specs.Seen.{seen, itself, none, unlike}
 use Rattle.format.specs.Written.{Stands, Held}
 use Rattle.format.specs.Back.{Where, stands-seen, stands-room, back-got, back-no}
-use Rattle.format.specs.Skip.{startIn, Skipped, nth}
+use Rattle.format.specs.Skip.{startIn, Skipped, skip-is, skip-never, nth}
 use Rattle.kind.specs.declared.Product.{Product}
 use Rattle.kind.specs.declared.Kind.{Kind}
 use Rattle.kind.specs.declared.Row.{Row}
@@ -22,7 +22,7 @@ use Rattle.element.specs.Data.{Data, dataOf}
 use Rattle.element.specs.Element.{Element}
 use Rattle.rule.specs.Rule.{Rule, rule, body, head, placed, elementsIn}
 use Rattle.rule.specs.Places.{elementsAt, dataAt, body-parts, behind-count, rule-parts, rule-elements, placed-parts, data-first, data-later}
-use Rattle.locate.specs.Steps.{nameEnd, name-end}
+use Rattle.locate.specs.Steps.{nameRead, nameEnd, name-end, name-never}
 
 -- ---- the number of elements and where they start
 
@@ -50,6 +50,10 @@ module _ (s : List ℕ) (at i : ℕ) {c : Read} (e : c ≡ seen itself (number 2
 -- from its start
 unfoldable pub Elements : List ℕ → ℕ → ℕ → Read → Type 0
 Elements s at i r = (p : Product) → Where (rule p i) s at (λ x. Got (elementsIn x) (elementsAt p i at x)) r
+
+pub elements-unnamed : (s : List ℕ) (at i : ℕ) (r : Read) {t : Read} {c : Fault} {q : ℕ} → t ≡ nameRead s at → t ≡ No c q → Elements s at i r
+unfolding Elements Where
+elements-unnamed s at i r f h p x b = name-never s at f h p i x b
 
 -- e is where its name ends
 module _ (s : List ℕ) (at i : ℕ) (r : Read) {e : ℕ} (n : e ≡ nameEnd s at) where
@@ -148,11 +152,18 @@ module _ (p : Product) (s : List ℕ) (at k : ℕ) (x : Rule) (b : Held (rule p 
     unfolding Elements Where
     elements-are = let z : Got n q ≡ Got (elementsIn x) (elementsAt p k at x) = sym h ∙ i p x b in ((cc), (cc))
 
-    -- element e stands where the code went
-    pub of-element : {W : Type 0} (absent : W) (f : ℕ → Data → W) (e o : ℕ) (v : W) → e < n → Skipped (placed p) s q e e o → Carries p s o e f v → v ≡ ofElement absent f p k e at x
-    unfolding Skipped Carries Where
-    of-element absent f e o v l g m =
-        let t = elements-are in
-        let row = rule-elements p k s at x (b .0) (b .1) in
-        let y = nth (placed p) s (elementsAt p k at x) e o (x .elements) (b .0) ((rw (t .1) at g) (x .elements) (b .0) row (omega (arith, t .0))) row (omega (arith, t .0)) in
-        m (y .x) (y .tail, y .stands) ∙ ap (λ (a : ℕ). f (dataAt e a) (y .x .1)) (y .starts) ∙ ap (ofFirst absent f e (startIn (placed p) (elementsAt p k at x) (x .elements) e)) (sym (y .whole))
+    -- element e starts where z tells
+    module _ (e : ℕ) (z : Read) (l : e < n) (g : Skipped (placed p) s q e e z) where
+      skips : Skipped (placed p) s (elementsAt p k at x) e e z
+      skips = rw (elements-are .1) at g
+
+      pub element-never : {B : Type 0} {f : Fault} {o : ℕ} → z ≡ No f o → B
+      element-never j = skip-never (placed p) s (elementsAt p k at x) e e skips (x .elements) (b .0) (rule-elements p k s at x (b .0) (b .1)) (omega (arith, elements-are .0)) j
+
+      pub of-element : {W : Type 0} {u o : ℕ} (absent : W) (f : ℕ → Data → W) (v : W) → z ≡ Got u o → Carries p s o e f v → v ≡ ofElement absent f p k e at x
+      unfolding Carries Where
+      of-element {o = o} absent f v j m =
+          let t = elements-are .0 in
+          let row = rule-elements p k s at x (b .0) (b .1) in
+          let y = nth (placed p) s (elementsAt p k at x) e o (x .elements) (b .0) (skip-is (placed p) s (elementsAt p k at x) e e skips (x .elements) (b .0) row (omega arith) j) row (omega arith) in
+          m (y .x) (y .tail, y .stands) ∙ ap (λ (a : ℕ). f (dataAt e a) (y .x .1)) (y .starts) ∙ ap (ofFirst absent f e (startIn (placed p) (elementsAt p k at x) (x .elements) e)) (sym (y .whole))

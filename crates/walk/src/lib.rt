@@ -25,15 +25,18 @@ fn counted_at(s: &[u8], at: usize, i: u64) -> Read
 pub fn elements_of(s: &[u8], at: usize, i: u64) -> Read
     ensures { λ r. ⌜ Elements (now (s .entry)) at i r ⌝ }
 {
-    let e = locate::name_end(s, at);
+    let t = locate::name_end(s, at);
+    let Read::Got(_, e) = t else {
+        return t;
+    };
     if wire::left(s, e) < 24 {
-        return Read::No(Fault::Cut, at);
+        return Read::No(Fault::Cut, e);
     }
     counted_at(s, e + 24, i)
 }
 
 // Where element e of a row of elements starts.
-pub fn element_start(s: &[u8], at: usize, product: Product, e: u64) -> usize
+pub fn element_start(s: &[u8], at: usize, product: Product, e: u64) -> Read
     ensures { λ r. ⌜ Skipped (placed product) (now (s .entry)) at e e r ⌝ }
 {
     let mut j = 0;
@@ -41,12 +44,12 @@ pub fn element_start(s: &[u8], at: usize, product: Product, e: u64) -> usize
     while j < e {
         let r = rule::placed_at(s, p, product, j);
         let Read::Got(_, q) = r else {
-            return 0;
+            return r;
         };
         p = q;
         j += 1;
     }
-    p
+    Read::Got(0, p)
 }
 
 // The identifier of the element at place j of its rule, behind its 8001; it ends where its data start.

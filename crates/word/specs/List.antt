@@ -32,7 +32,7 @@ use Rattle.element.specs.Element.{Element, element, identifier, dataBy}
 use Rattle.rule.specs.Rule.{Rule, rule, separator, placed, rule-fits}
 use Rattle.rule.specs.Parts.{headBytes, inner, inner-as}
 use Rattle.rule.specs.Places.{elementsAt, dataAt, rule-parts, rule-elements, placed-parts}
-use Rattle.walk.specs.Elements.{Elements, ofFirst, ofElement, Carries, elements-none, elements-are, of-element}
+use Rattle.walk.specs.Elements.{Elements, ofFirst, ofElement, Carries, elements-none, elements-are, element-never, of-element}
 use Rattle.plan.specs.Edit.{Plan, refuse, atList}
 
 -- the number of words of a list whose data start at a place, and where it stands; other data are no list
@@ -69,10 +69,14 @@ module _ (p : Product) (s : List ℕ) (at k : ℕ) (r : Read) {c : Read} (i : El
     unfolding Where
     last-list-none e x b = absurd (omega (arith, elements-are p s at k x b i h .0, rule-fits p k x (b .1 .fit) .0))
 
-    pub last-list-is : (o : ℕ) → (n ≡ 0 → ⊥) → Skipped (placed p) s q (n - 1) (n - 1) o → Carries p s o (n - 1) listOf r → Where (rule p k) s at (lastList p k at) r
+    pub last-list-never : {z : Read} {f : Fault} {o : ℕ} → (n ≡ 0 → ⊥) → Skipped (placed p) s q (n - 1) (n - 1) z → z ≡ No f o → Where (rule p k) s at (lastList p k at) r
     unfolding Where
-    last-list-is o e g m x b =
-        of-element p s at k x b i h (No Fault.Last 0) listOf (n - 1) o r (omega arith) g m
+    last-list-never e g j x b = element-never p s at k x b i h (n - 1) _ (omega arith) g j
+
+    pub last-list-is : {z : Read} {u o : ℕ} → (n ≡ 0 → ⊥) → Skipped (placed p) s q (n - 1) (n - 1) z → z ≡ Got u o → Carries p s o (n - 1) listOf r → Where (rule p k) s at (lastList p k at) r
+    unfolding Where
+    last-list-is e g j m x b =
+        of-element p s at k x b i h (n - 1) _ (omega arith) g (No Fault.Last 0) listOf r j m
         ∙ ap (λ (l : ℕ). ofElement (No Fault.Last 0) listOf p k (l - 1) at x) (elements-are p s at k x b i h .0)
 
 -- ---- what it tells of the rule's elements
@@ -138,10 +142,13 @@ ends-in-list p s at k e x b ee h =
     }
 
 -- other elements are none
-pub list-none : (j at : ℕ) (xs : List Element) {c : Fault} {q : ℕ} → ofFirst (No Fault.Last 0) listOf j at xs ≡ No c q → (g : ℕ → List (List ℕ) → Plan) → atList xs g ≡ refuse Fault.Last 0
+no-list : {c : Fault} {q : ℕ} → No Fault.Last 0 ≡ No c q → refuse Fault.Last 0 ≡ refuse c q
+no-list {c} {q} h = let e : c ≡ Fault.Last = cc in let z : q ≡ 0 = cc in rw (e, z)
+
+pub list-none : (j at : ℕ) (xs : List Element) {c : Fault} {q : ℕ} → ofFirst (No Fault.Last 0) listOf j at xs ≡ No c q → (g : ℕ → List (List ℕ) → Plan) → atList xs g ≡ refuse c q
 unfolding atList
-list-none j at [] h g = refl
-list-none j at ((id, plain) ∷ xs) h g = refl
+list-none j at [] h g = no-list h
+list-none j at ((id, plain) ∷ xs) h g = no-list h
 list-none j at ((id, words ws) ∷ xs) h g = unlike refl h
-list-none j at ((id, sizes a b) ∷ xs) h g = refl
-list-none j at ((id, span a b) ∷ xs) h g = refl
+list-none j at ((id, sizes a b) ∷ xs) h g = no-list h
+list-none j at ((id, span a b) ∷ xs) h g = no-list h

@@ -12,6 +12,7 @@ use Rattle.format.specs.declared.Outcome.{Outcome}
 use Rattle.format.specs.declared.Outcome.the-variants as Outcome
 use Rattle.format.specs.declared.Read.{Read}
 use Rattle.format.specs.declared.Read.the-variants as Read
+use Rattle.format.specs.Fault.{endSays}
 use Rattle.format.specs.Format.{Bytes}
 use Rattle.format.specs.ReadWrite.{pairWrite, spelt, eachWrite}
 use Rattle.format.specs.Laws.ReadWrite.{length-spelt, each-append}
@@ -213,9 +214,9 @@ module _ (p : Product) (n m a : ℕ) (s d : List ℕ) where
     unfolding Where
     last-told h e = (rw e at li) (h .r) (here-in n d h)
 
-    pub word-no-list : {c : Fault} {q : ℕ} → y ≡ Read.No c q → MakesAs p lastOf n m a (addWord s) d (Outcome.No Fault.Last 0) d
+    pub word-no-list : {r : Outcome} {c : Fault} {q : ℕ} → y ≡ Read.No c q → r ≡ endSays y → MakesAs p lastOf n m a (addWord s) d r d
     unfolding edited
-    word-no-list k = on-last p n m a d (addWord s) (withWord s) (λ rs. refl) _ _ l g (λ rs h z w v e′ a′. made-no n d (list-none _ _ _ (sym (last-told h a′) ∙ k) _))
+    word-no-list k er = on-last p n m a d (addWord s) (withWord s) (λ rs. refl) _ _ l g (λ rs h z w v e′ a′. let u = made-no n d (list-none _ _ _ (sym (last-told h a′) ∙ k) _) in (er ∙ ap endSays k ∙ u .0, u .1))
 
     module _ {c t : ℕ} (k : y ≡ Read.Got c t) where
       is-listed : {rs : List Rule} (h : Here p (take n d) rs (m - 1)) → e ≡ startOf rs (m - 1) + 4 + length (string .write (h .r .name)) → a ≡ startOf rs (m - 1) → EndsInList (m - 1) e (h .r .elements) c t

@@ -27,10 +27,10 @@ fn word_count(s: &[u8], at: usize) -> Read
     ensures { λ r. ⌜ Where wordData (now (s .entry)) at (listOf at) r ⌝ }
 {
     let z = wire::u32_at(s, at);
-    match z {
-        Read::Got(count, _) => Read::Got(count, at),
-        Read::No(_, _) => Read::No(Fault::Last, 0),
-    }
+    let Read::Got(count, _) = z else {
+        return z;
+    };
+    Read::Got(count, at)
 }
 
 // The same of the data of a kind.
@@ -52,11 +52,11 @@ fn list_in(s: &[u8], at: usize, product: Product, j: u64) -> Read
 {
     let x = walk::identifier_at(s, at, j);
     let Read::Got(identifier, q) = x else {
-        return Read::No(Fault::Last, 0);
+        return x;
     };
     let row = row::row_for(product, identifier);
     let Row::Is(kind) = row else {
-        return Read::No(Fault::Last, 0);
+        return format::no_read(kind::kind_says(row));
     };
     list_of(s, q, kind)
 }
@@ -67,12 +67,15 @@ fn list_at(s: &[u8], at: usize, product: Product, i: u64) -> Read
 {
     let c = walk::elements_of(s, at, i);
     let Read::Got(count, p) = c else {
-        return Read::No(Fault::Last, 0);
+        return c;
     };
     if count == 0 {
         return Read::No(Fault::Last, 0);
     }
-    let t = walk::element_start(s, p, product, count - 1);
+    let r = walk::element_start(s, p, product, count - 1);
+    let Read::Got(_, t) = r else {
+        return r;
+    };
     list_in(s, t, product, count - 1)
 }
 
@@ -107,10 +110,13 @@ fn word_in(buf: &mut [u8], n: usize, product: Product, word: &[u8], m: u64, a: u
     if m == 0 {
         return Outcome::No(Fault::Last, 0);
     }
-    let e = locate::name_end(buf, a);
+    let r = locate::name_end(buf, a);
+    let Read::Got(_, e) = r else {
+        return format::end_says(r);
+    };
     let l = list_at(buf, a, product, m - 1);
     let Read::Got(count, t) = l else {
-        return Outcome::No(Fault::Last, 0);
+        return format::end_says(l);
     };
     if 64 <= count {
         return Outcome::No(Fault::Full, 0);
@@ -131,8 +137,8 @@ pub fn add_word(edition: u64, buf: &mut [u8], n: usize, word: &[u8]) -> Outcome
         return Outcome::No(Fault::Edition, 0);
     };
     let f = plan::find_last(edition, buf, n);
-    match f {
-        Spot::No(c, p) => Outcome::No(c, p),
-        Spot::Is(m, a, _) => word_in(buf, n, product, word, m, a),
-    }
+    let Spot::Is(m, a, _) = f else {
+        return locate::spot_says(f);
+    };
+    word_in(buf, n, product, word, m, a)
 }

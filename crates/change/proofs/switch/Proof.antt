@@ -5,10 +5,10 @@ use Rattle.change.proofs.switch.Statement.{statement}
 use Rattle.change.proofs.switch.Tie as tie
 
 returns : tie.Need-returns
-returns c = edit-no _ _ _ _ _ (c .before .before .before .find .ensures) (c .before .f .given .1)
+returns c = edit-no _ _ _ _ _ (c .before .before .before .find .ensures) (c .before .enum-told .given .1) (c .spot-says .ensures)
 
 returns-2 : tie.Need-returns-2
-returns-2 c = edit-done _ _ _ _ _ (bytes-all (c .before .before .before .before .before .before .before .before .before .before .args .buf .now) (c .before .before .before .before .before .before .before .before .before .slice-known .given)) (c .before .before .before .before .before .before .before .find .ensures) (c .before .before .before .before .before .f2 .given .1) (c .before .before .switch-at .ensures _)
+returns-2 c = edit-done _ _ _ _ _ (bytes-all (c .before .before .before .before .before .before .before .before .before .before .args .buf .now) (c .before .before .before .before .before .before .before .before .before .slice-known .given)) (c .before .before .before .before .before .before .before .find .ensures) (c .before .before .before .before .before .f .given .1) (c .before .before .switch-at .ensures _)
 
 pub switch-spec : {M : Type 1} → statement M
 switch-spec =
@@ -20,5 +20,6 @@ switch-spec =
     (λ c κs. search needs)
     (λ c. search needs)
     returns
+    (λ c κs. search needs)
     (λ c. search needs)
     returns-2)

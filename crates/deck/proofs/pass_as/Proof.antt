@@ -7,17 +7,17 @@ use Rattle.deck.proofs.pass_as.Tie as tie
 returns : tie.Need-returns
 returns c = search (needs, scan-long)
 
-rules-at-requires : tie.Need-rules-at-requires
-rules-at-requires c κs = header-small (c .before .before .before .before .before .before .args .s .now) (bytes-all (c .before .before .before .before .before .before .args .s .now) (c .before .before .before .before .before .shared-slice-known .given)) (c .before .before .before .header-at .ensures) (c .before .h2 .given .1)
-
 returns-2 : tie.Need-returns-2
-returns-2 c = search (needs, scan-over)
+returns-2 c = search (needs, scan-header)
+
+rules-at-requires : tie.Need-rules-at-requires
+rules-at-requires c κs = header-small (c .before .before .before .before .before .before .args .s .now) (bytes-all (c .before .before .before .before .before .before .args .s .now) (c .before .before .before .before .before .shared-slice-known .given)) (c .before .before .before .header-at .ensures) (c .before .h .given .1)
 
 returns-3 : tie.Need-returns-3
-returns-3 c = search (needs, scan-header)
+returns-3 c = search (needs, scan-rules)
 
 returns-4 : tie.Need-returns-4
-returns-4 c = search (needs, scan-rules)
+returns-4 c = search (needs, scan-over)
 
 returns-5 : tie.Need-returns-5
 returns-5 c = search (needs, scan-is)
@@ -30,10 +30,14 @@ pass-as-spec =
     (λ c κs. search needs)
     (λ c. search needs)
     (λ c. search needs)
+    (λ c κs. search needs)
+    (λ c κs. search needs)
+    returns-2
     rules-at-requires
     (λ c. search needs)
     (λ c. search needs)
-    returns-2
+    (λ c κs. search needs)
+    (λ c κs. search needs)
     returns-3
     returns-4
     returns-5)

@@ -1,17 +1,21 @@
 use native.Mathlib.Omega.{arith}
-use Rattle.insert.specs.Place.{opens-not, opens-shift}
+use Rattle.insert.specs.Place.{opens-unnamed, opens-not, opens-shift}
+use Rattle.locate.specs.Steps.{name-got}
 use borrow.Author.Needs.{needs}
 use Rattle.insert.proofs.open_first.Statement.{statement}
 use Rattle.insert.proofs.open_first.Tie as tie
 
 returns : tie.Need-returns
-returns c = opens-not _ _ _ _ _ _ (c .before .name-end .ensures) (c .before .before .before .before .pre .0) (omega arith)
+returns c = opens-unnamed _ _ _ _ _ (c .before .before .name-end .ensures) (c .enum-told .given .1) (c .before .before .before .before .before .pre .0)
 
 returns-2 : tie.Need-returns-2
-returns-2 c = opens-not _ _ _ _ _ _ (c .before .before .name-end .ensures) (c .before .before .before .before .before .pre .0) (omega arith)
+returns-2 c = opens-not _ _ _ _ _ _ (name-got _ _ (c .before .before .before .before .name-end .ensures) (c .before .before .t .given .1)) (c .before .before .before .before .before .before .before .pre .0) (omega arith)
 
 returns-3 : tie.Need-returns-3
-returns-3 c = opens-shift _ _ _ _ _ _ (c .before .before .before .before .before .before .before .before .before .before .before .before .before .before .before .before .before .before .name-end .ensures) (c .before .before .before .before .before .before .before .before .before .before .before .before .before .before .before .before .before .before .before .before .before .pre .0) (c .before .before .before .before .before .before .before .before .before .before .before .before .before .before .«open» .ensures) (c .before .before .before .before .before .before .before .before .before .before .move-up .ensures) (c .before .before .before .before .before .before .put-number .ensures) (c .before .before .put-head .ensures) (omega arith) (omega arith) (omega arith) (omega arith) (omega arith) (omega arith)
+returns-3 c = opens-not _ _ _ _ _ _ (name-got _ _ (c .before .before .before .before .before .name-end .ensures) (c .before .before .before .t .given .1)) (c .before .before .before .before .before .before .before .before .pre .0) (omega arith)
+
+returns-4 : tie.Need-returns-4
+returns-4 c = opens-shift _ _ _ _ _ _ (name-got _ _ (c .before .before .before .before .before .before .before .before .before .before .before .before .before .before .before .before .before .before .before .before .before .name-end .ensures) (c .before .before .before .before .before .before .before .before .before .before .before .before .before .before .before .before .before .before .before .t .given .1)) (c .before .before .before .before .before .before .before .before .before .before .before .before .before .before .before .before .before .before .before .before .before .before .before .before .pre .0) (c .before .before .before .before .before .before .before .before .before .before .before .before .before .before .«open» .ensures) (c .before .before .before .before .before .before .before .before .before .before .move-up .ensures) (c .before .before .before .before .before .before .put-number .ensures) (c .before .before .put-head .ensures) (omega arith) (omega arith) (omega arith) (omega arith) (omega arith) (omega arith)
 
 pub open-first-spec : {M : Type 1} → statement M
 open-first-spec =
@@ -19,15 +23,13 @@ open-first-spec =
     (tie.spec
     (λ c κs. search needs)
     (λ c. search needs)
+    (λ c. search needs)
+    (λ c. search needs)
     returns
     (λ c. search needs)
     returns-2
     (λ c. search needs)
-    (λ c. search needs)
-    (λ c. search needs)
-    (λ c κs. search needs)
-    (λ c. search needs)
-    (λ c κs. search needs)
+    returns-3
     (λ c. search needs)
     (λ c. search needs)
     (λ c. search needs)
@@ -35,4 +37,10 @@ open-first-spec =
     (λ c. search needs)
     (λ c κs. search needs)
     (λ c. search needs)
-    returns-3)
+    (λ c. search needs)
+    (λ c. search needs)
+    (λ c κs. search needs)
+    (λ c. search needs)
+    (λ c κs. search needs)
+    (λ c. search needs)
+    returns-4)

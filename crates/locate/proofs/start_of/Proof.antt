@@ -1,11 +1,12 @@
 use borrow.Author.Needs.{needs}
 use Prim.Native.Nat.{_-_, _≤_}
-use Rattle.locate.specs.Steps.{Reached, reached-start, reached-go, reached-end}
+use Rattle.format.specs.declared.Read.the-variants.{Got}
+use Rattle.locate.specs.Steps.{Reached, reached-start, reached-go, reached-stop, reached-end}
 use Rattle.locate.proofs.start_of.Statement.{statement}
 use Rattle.locate.proofs.start_of.Tie as tie
 
 abbrev Inv-loop : tie.InvT-loop
-Inv-loop s k i₀ p₀ i p = Reached s k i p × (i ≤ k)
+Inv-loop s k i₀ p₀ i p = Reached s k i (Got 0 p) × (i ≤ k)
 
 abbrev μ-loop : tie.MeasureT-loop
 μ-loop s k i₀ p₀ i p = k - i
@@ -13,13 +14,27 @@ abbrev μ-loop : tie.MeasureT-loop
 loop-holds : tie.Need-loop-holds Inv-loop μ-loop
 loop-holds c = (reached-start _ _, search needs)
 
+returns : tie.Need-returns Inv-loop μ-loop
+returns c = search (needs, reached-stop)
+
 loop-again : tie.Need-loop-again Inv-loop μ-loop
 loop-again c = (search (needs, reached-go), search needs)
 
-returns : tie.Need-returns Inv-loop μ-loop
-returns c = search (needs, reached-end)
+returns-2 : tie.Need-returns-2 Inv-loop μ-loop
+returns-2 c = search (needs, reached-end)
 
 pub start-of-spec : {M : Type 1} → statement M
 start-of-spec =
     tie.close
-    (tie.spec Inv-loop μ-loop loop-holds (λ c κs. search needs) (λ c. search needs) (λ c. search needs) loop-again returns)
+    (tie.spec
+    Inv-loop
+    μ-loop
+    loop-holds
+    (λ c κs. search needs)
+    (λ c. search needs)
+    (λ c. search needs)
+    returns
+    (λ c. search needs)
+    (λ c. search needs)
+    loop-again
+    returns-2)

@@ -6,7 +6,7 @@ use Rattle.remove.proofs.remove_first.Statement.{statement}
 use Rattle.remove.proofs.remove_first.Tie as tie
 
 returns : tie.Need-returns
-returns c = λ edition k a ek ee. remove-unread edition _ k _ a _ _ _ ek (c .before .before .before .before .before .pre .many) ee (c .before .before .u32-at .ensures) (c .enum-told .given .1)
+returns c = λ edition k a ek ee. remove-unread edition _ k _ a _ _ _ _ _ ek (c .before .before .before .before .before .before .pre .many) ee (c .before .before .before .u32-at .ensures) (c .before .enum-told .given .1)
 
 lead-requires : tie.Need-lead-requires
 lead-requires c κs = (omega (arith, c .before .before .before .before .before .before .before .pre .wide), omega (arith, c .before .before .before .before .before .before .before .pre .order), omega (arith, c .before .before .before .before .before .before .before .pre .inside), c .before .before .before .before .before .before .before .pre .short, size-bound _ _ (bytes-all (c .before .before .before .before .before .before .before .args .buf .now) (c .before .before .before .before .before .before .slice-known .given)) (c .before .before .before .before .u32-at .ensures) (c .before .before .z .given .1))
@@ -22,6 +22,7 @@ remove-first-spec =
     (λ c κs. search needs)
     (λ c. search needs)
     (λ c. search needs)
+    (λ c κs. search needs)
     (λ c. search needs)
     returns
     (λ c. search needs)

@@ -10,19 +10,19 @@ returns : tie.Need-returns
 returns c = read-none _ _ (c .before .before .edition-of .ensures) _ _ (c .enum-told .given .1)
 
 returns-2 : tie.Need-returns-2
-returns-2 c = read-refused _ _ (c .before .before .before .before .before .before .before .edition-of .ensures) (c .before .before .before .before .before .e .given .1) (c .before .before .before .pass .ensures) _ _ (c .before .enum-told2 .given .1) (c .scan-answer .ensures)
+returns-2 c = read-refused _ _ (c .before .before .before .before .before .before .before .edition-of .ensures) (c .before .before .before .before .before .e .given .1) (c .before .before .before .pass .ensures .0) _ _ (c .before .enum-told2 .given .1) (c .scan-says .ensures)
 
 returns-3 : tie.Need-returns-3
-returns-3 c = read-full _ _ (c .before .before .before .before .before .before .before .before .before .edition-of .ensures) (c .before .before .before .before .before .before .before .e .given .1) (c .before .before .before .before .before .pass .ensures) _ _ (c .before .before .before .scan .given .1) (c .before .room .ensures) (λ v h. elim (rw h at (c .match3 .keys2)) [ inl z ↦ absurd (omega arith) | inr z ↦ absurd (omega arith) ])
+returns-3 c = read-full _ _ (c .before .before .before .before .before .before .before .before .before .edition-of .ensures) (c .before .before .before .before .before .before .before .e .given .1) (c .before .before .before .before .before .pass .ensures .0) _ _ (c .before .before .before .scan .given .1) (c .before .room .ensures) (λ v h. elim (rw h at (c .match3 .keys2)) [ inl z ↦ absurd (omega arith) | inr z ↦ absurd (omega arith) ])
 
 fill-rules-requires : tie.Need-fill-rules-requires
-fill-rules-requires c κs = read-small _ _ (c .before .before .before .before .before .before .before .before .before .before .before .before .edition-of .ensures) (c .before .before .before .before .before .before .before .before .before .before .e .given .1) (c .before .before .before .before .before .before .before .before .pass .ensures) (c .before .before .before .before .before .before .scan .given .1) (bytes-all _ (c .before .before .before .before .before .before .before .before .before .before .before .before .before .before .before .shared-slice-known .given))
+fill-rules-requires c κs = read-small _ _ (c .before .before .before .before .before .before .before .before .before .before .before .before .edition-of .ensures) (c .before .before .before .before .before .before .before .before .before .before .e .given .1) (c .before .before .before .before .before .before .before .before .pass .ensures .0) (c .before .before .before .before .before .before .scan .given .1) (bytes-all _ (c .before .before .before .before .before .before .before .before .before .before .before .before .before .before .before .shared-slice-known .given))
 
 returns-4 : tie.Need-returns-4
-returns-4 c = read-unlike _ _ (c .before .before .before .before .before .before .before .before .before .before .before .before .before .before .before .before .before .before .before .before .edition-of .ensures) (c .before .before .before .before .before .before .before .before .before .before .before .before .before .before .before .before .before .before .e .given .1) (c .before .before .before .before .before .before .before .before .before .before .before .before .before .before .before .before .pass .ensures) _ _ (c .before .before .before .before .before .before .before .before .before .before .before .before .before .before .scan .given .1) (c .before .before .before .before .before .before .before .before .before .before .before .before .room .ensures) (c .before .before .before .before .before .before .before .before .before .before .enum-told3 .given .1) (bytes-all _ (c .before .before .before .before .before .before .before .before .before .before .before .before .before .before .before .before .before .before .before .before .before .before .before .shared-slice-known .given)) (c .before .before .before .before .before .before .before .fill-rules .ensures) (c .before .enum-told5 .given .1)
+returns-4 c = read-unlike _ _ (c .before .before .before .before .before .before .before .before .before .before .before .before .before .before .before .before .before .before .before .before .edition-of .ensures) (c .before .before .before .before .before .before .before .before .before .before .before .before .before .before .before .before .before .before .e .given .1) (c .before .before .before .before .before .before .before .before .before .before .before .before .before .before .before .before .pass .ensures .0) _ _ (c .before .before .before .before .before .before .before .before .before .before .before .before .before .before .scan .given .1) (c .before .before .before .before .before .before .before .before .before .before .before .before .room .ensures) (c .before .before .before .before .before .before .before .before .before .before .enum-told3 .given .1) (bytes-all _ (c .before .before .before .before .before .before .before .before .before .before .before .before .before .before .before .before .before .before .before .before .before .before .before .shared-slice-known .given)) (c .before .before .before .before .before .before .before .fill-rules .ensures) (c .before .enum-told5 .given .1)
 
 returns-5 : tie.Need-returns-5
-returns-5 c = read-done _ _ (c .before .before .before .before .before .before .before .before .before .before .before .before .before .before .before .before .before .before .before .edition-of .ensures) (c .before .before .before .before .before .before .before .before .before .before .before .before .before .before .before .before .before .e .given .1) (c .before .before .before .before .before .before .before .before .before .before .before .before .before .before .before .pass .ensures) _ _ (c .before .before .before .before .before .before .before .before .before .before .before .before .before .scan .given .1) (c .before .before .before .before .before .before .before .before .before .before .before .room .ensures) (c .before .before .before .before .before .before .before .before .before .enum-told3 .given .1) (bytes-all _ (c .before .before .before .before .before .before .before .before .before .before .before .before .before .before .before .before .before .before .before .before .before .before .shared-slice-known .given)) (c .before .before .before .before .before .before .fill-rules .ensures)
+returns-5 c = read-done _ _ (c .before .before .before .before .before .before .before .before .before .before .before .before .before .before .before .before .before .before .before .edition-of .ensures) (c .before .before .before .before .before .before .before .before .before .before .before .before .before .before .before .before .before .e .given .1) (c .before .before .before .before .before .before .before .before .before .before .before .before .before .before .before .pass .ensures .0) _ _ (c .before .before .before .before .before .before .before .before .before .before .before .before .before .scan .given .1) (c .before .before .before .before .before .before .before .before .before .before .before .room .ensures) (c .before .before .before .before .before .before .before .before .before .enum-told3 .given .1) (bytes-all _ (c .before .before .before .before .before .before .before .before .before .before .before .before .before .before .before .before .before .before .before .before .before .before .shared-slice-known .given)) (c .before .before .before .before .before .before .fill-rules .ensures)
 
 pub read-spec : {M : Type 1} → statement M
 read-spec =

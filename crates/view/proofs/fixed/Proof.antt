@@ -1,22 +1,24 @@
 use native.Mathlib.Omega.{arith}
 use Rattle.format.specs.Format.{bytes-all}
-use Rattle.view.specs.Fixed.{fixedFields}
+use Rattle.view.specs.Fixed.{fixedFields, noFields, fields-say}
 use Rattle.view.specs.Asked.{asked-refused, asked-absent, asked-is}
+use mathlib.Core.Path.{ap, _∙_}
+use Rattle.deck.specs.Deck.{scanSays}
 use borrow.Author.Needs.{needs}
 use Rattle.view.proofs.fixed.Statement.{statement}
 use Rattle.view.proofs.fixed.Tie as tie
 
 returns : tie.Need-returns
 unfolding fixedFields
-returns c = asked-absent _ _ _ _ _ (bytes-all (c .before .before .before .before .before .before .args .s .now) (c .before .before .before .before .before .shared-slice-known .given)) (c .before .before .before .before .pass .ensures) (c .before .before .c2 .given .1) (omega arith)
+returns c = fields-say _ _ _ (asked-refused _ _ _ _ _ (c .before .before .before .before .pass .ensures .0) (c .before .before .enum-told .given .1) (c .no-fields .ensures ∙ ap noFields (c .before .scan-says .ensures ∙ ap scanSays (c .before .before .enum-told .given .1))))
 
 returns-2 : tie.Need-returns-2
 unfolding fixedFields
-returns-2 c = search (needs, asked-refused)
+returns-2 c = fields-say _ _ _ (asked-absent _ _ _ _ _ (bytes-all (c .before .before .before .before .before .before .args .s .now) (c .before .before .before .before .before .shared-slice-known .given)) (c .before .before .before .before .pass .ensures .0) (c .before .before .c .given .1) (omega arith))
 
 returns-3 : tie.Need-returns-3
 unfolding fixedFields
-returns-3 c = asked-is _ _ _ _ _ (bytes-all (c .before .before .before .before .before .before .before .args .s .now) (c .before .before .before .before .before .before .shared-slice-known .given)) (c .before .before .before .before .before .pass .ensures) (c .before .before .before .c2 .given .1) (omega arith) (λ p h. c .fields-at .ensures p)
+returns-3 c = fields-say _ _ _ (asked-is _ _ _ _ _ (bytes-all (c .before .before .before .before .before .before .before .args .s .now) (c .before .before .before .before .before .before .shared-slice-known .given)) (c .before .before .before .before .before .pass .ensures .0) (c .before .before .before .c .given .1) (omega arith) (λ p h. c .fields-at .ensures p))
 
 pub fixed-spec : {M : Type 1} → statement M
 fixed-spec =
@@ -25,7 +27,9 @@ fixed-spec =
     (λ c κs. search needs)
     (λ c. search needs)
     (λ c. search needs)
-    returns
     (λ c κs. search needs)
+    (λ c κs. search needs)
+    returns
     returns-2
+    (λ c κs. search needs)
     returns-3)

@@ -1,23 +1,24 @@
-use native.Mathlib.Omega.{arith}
-use Rattle.view.specs.View.{name-past, name-is}
+use Rattle.view.specs.View.{no-inside, name-unreached, name-is}
 use borrow.Author.Needs.{needs}
 use Rattle.view.proofs.name_at.Statement.{statement}
 use Rattle.view.proofs.name_at.Tie as tie
 
 returns : tie.Need-returns
-returns c = (name-past _ _ _ _ (c .before .before .start-of .ensures) (omega arith), tt)
+returns c = (name-unreached _ _ _ (c .before .before .before .before .start-of .ensures) (c .before .before .enum-told .given .1), no-inside _ _ (c .no-view .ensures))
 
 returns-2 : tie.Need-returns-2
-returns-2 c = (name-is _ _ _ _ (c .before .before .before .before .start-of .ensures) (c .before .string-at .ensures) (c .units-of .ensures .0), c .units-of .ensures .1)
+returns-2 c = (name-is _ _ _ (c .before .before .before .before .before .start-of .ensures) (c .before .before .before .r .given .1) (c .before .name-end .ensures) (c .units-of .ensures .0), c .units-of .ensures .1)
 
 pub name-at-spec : {M : Type 1} → statement M
 name-at-spec =
     tie.close
     (tie.spec
     (λ c κs. search needs)
+    (λ c. search needs)
+    (λ c. search needs)
+    (λ c κs. search needs)
     (λ c κs. search needs)
     returns
-    (λ c. search needs)
     (λ c κs. search needs)
     (λ c κs. search needs)
     returns-2)

@@ -1,16 +1,20 @@
-use Rattle.view.specs.Word.{rule-cut, rule-short, rule-is}
+use Rattle.view.specs.Word.{rule-cut, rule-short, rule-never, rule-is}
+use Rattle.view.specs.View.{no-inside}
 use borrow.Author.Needs.{needs}
 use Rattle.view.proofs.rule_word.Statement.{statement}
 use Rattle.view.proofs.rule_word.Tie as tie
 
 returns : tie.Need-returns
-returns c = (search (needs, rule-cut), tt)
+returns c = (search (needs, rule-cut), no-inside _ _ (c .no-view .ensures))
 
 returns-2 : tie.Need-returns-2
 returns-2 c = (search (needs, rule-short), tt)
 
 returns-3 : tie.Need-returns-3
-returns-3 c = (search (needs, rule-is), c .element-word .ensures .1)
+returns-3 c = (search (needs, rule-never), no-inside _ _ (c .no-view2 .ensures))
+
+returns-4 : tie.Need-returns-4
+returns-4 c = (search (needs, rule-is), c .element-word .ensures .1)
 
 pub rule-word-spec : {M : Type 1} → statement M
 rule-word-spec =
@@ -19,8 +23,15 @@ rule-word-spec =
     (λ c κs. search needs)
     (λ c. search needs)
     (λ c. search needs)
+    (λ c κs. search needs)
+    (λ c κs. search needs)
     returns
     returns-2
     (λ c κs. search needs)
+    (λ c. search needs)
+    (λ c. search needs)
     (λ c κs. search needs)
-    returns-3)
+    (λ c κs. search needs)
+    returns-3
+    (λ c κs. search needs)
+    returns-4)

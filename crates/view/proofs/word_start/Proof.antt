@@ -1,4 +1,5 @@
 use Prim.Native.Nat.{_-_, _≤_}
+use Rattle.format.specs.declared.Read.the-variants.{Got}
 use Rattle.format.specs.Skip.{Skipped, skip-start, skip-go, skip-stop, skip-end}
 use Rattle.text.specs.Text.{word}
 use borrow.Author.Needs.{needs}
@@ -6,7 +7,7 @@ use Rattle.view.proofs.word_start.Statement.{statement}
 use Rattle.view.proofs.word_start.Tie as tie
 
 abbrev Inv-loop : tie.InvT-loop
-Inv-loop s at w i₀ p₀ i p = Skipped (λ i. word) s at w i p × (i ≤ w)
+Inv-loop s at w i₀ p₀ i p = Skipped (λ i. word) s at w i (Got 0 p) × (i ≤ w)
 
 abbrev μ-loop : tie.MeasureT-loop
 μ-loop s at w i₀ p₀ i p = w - i

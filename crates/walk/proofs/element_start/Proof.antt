@@ -1,4 +1,5 @@
 use Prim.Native.Nat.{_-_, _≤_}
+use Rattle.format.specs.declared.Read.the-variants.{Got}
 use Rattle.format.specs.Skip.{Skipped, skip-start, skip-go, skip-stop, skip-end}
 use Rattle.rule.specs.Rule.{placed}
 use borrow.Author.Needs.{needs}
@@ -6,7 +7,7 @@ use Rattle.walk.proofs.element_start.Statement.{statement}
 use Rattle.walk.proofs.element_start.Tie as tie
 
 abbrev Inv-loop : tie.InvT-loop
-Inv-loop s at product e j₀ p₀ j p = Skipped (placed product) s at e j p × (j ≤ e)
+Inv-loop s at product e j₀ p₀ j p = Skipped (placed product) s at e j (Got 0 p) × (j ≤ e)
 
 abbrev μ-loop : tie.MeasureT-loop
 μ-loop s at product e j₀ p₀ j p = e - j

@@ -9,14 +9,14 @@ use Rattle.word.proofs.add_word.Tie as tie
 returns : tie.Need-returns
 returns c = edit-unknown _ _ _ _ (c .before .before .edition-of .ensures) (c .enum-told .given .1)
 
-word-in-requires : tie.Need-word-in-requires
-word-in-requires c κs = let o = c .before .before .before .before .before .before .before .before .before .before .before .before in let w = found-within lastOf _ _ _ (bytes-all (o .args .buf .now) (c .before .before .before .before .before .before .before .before .before .before .before .slice-known .given)) (c .before .before .before .before .find-last .ensures) (c .before .before .f2 .given .1) in (omega (arith, w .order, w .inside, w .room), w .short)
-
 returns-2 : tie.Need-returns-2
-returns-2 c = edit-no _ _ _ _ _ (c .before .before .before .find-last .ensures) (c .before .f .given .1)
+returns-2 c = edit-no _ _ _ _ _ (c .before .before .before .find-last .ensures) (c .before .enum-told2 .given .1) (c .spot-says .ensures)
+
+word-in-requires : tie.Need-word-in-requires
+word-in-requires c κs = let o = c .before .before .before .before .before .before .before .before .before .before .before .before in let w = found-within lastOf _ _ _ (bytes-all (o .args .buf .now) (c .before .before .before .before .before .before .before .before .before .before .before .slice-known .given)) (c .before .before .before .before .find-last .ensures) (c .before .before .f .given .1) in (omega (arith, w .order, w .inside, w .room), w .short)
 
 returns-3 : tie.Need-returns-3
-returns-3 c = edit-made _ _ _ _ _ (bytes-all (c .before .before .before .before .before .before .before .before .before .before .before .before .before .before .before .args .buf .now) (c .before .before .before .before .before .before .before .before .before .before .before .before .before .before .slice-known .given)) (c .before .before .before .before .before .before .before .find-last .ensures) (c .before .before .before .before .before .f2 .given .1) (c .before .before .before .before .before .before .before .before .before .before .before .before .edition-of .ensures) (c .before .before .before .before .before .before .before .before .before .before .o .given .1) (c .before .before .word-in .ensures)
+returns-3 c = edit-made _ _ _ _ _ (bytes-all (c .before .before .before .before .before .before .before .before .before .before .before .before .before .before .before .args .buf .now) (c .before .before .before .before .before .before .before .before .before .before .before .before .before .before .slice-known .given)) (c .before .before .before .before .before .before .before .find-last .ensures) (c .before .before .before .before .before .f .given .1) (c .before .before .before .before .before .before .before .before .before .before .before .before .edition-of .ensures) (c .before .before .before .before .before .before .before .before .before .before .o .given .1) (c .before .before .word-in .ensures)
 
 pub add-word-spec : {M : Type 1} → statement M
 add-word-spec =
@@ -29,8 +29,9 @@ add-word-spec =
     (λ c κs. search needs)
     (λ c. search needs)
     (λ c. search needs)
-    word-in-requires
+    (λ c κs. search needs)
     (λ c. search needs)
     returns-2
+    word-in-requires
     (λ c. search needs)
     returns-3)
