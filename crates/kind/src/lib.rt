@@ -48,7 +48,7 @@ pub fn edition_of(edition: u64) -> Edition
 
 // What an identifier's row says.
 pub fn kind_says(row: Row) -> Outcome
-    ensures { λ r. ⌜ r ≡ kindSays row ⌝ }
+    ensures { λ r. ⌜ r ≡ kindSays row .0 ⌝ }
 {
     match row {
         Row::Is(_) => Outcome::Done(0),

@@ -55,9 +55,9 @@ text-even s h = rw (eq-eqb (length s % 2) 0 h)
 
 -- row is the row of the identifier
 module _ (p : Product) (id : ℕ) (s : List ℕ) {row : Row} where
-  pub given-none : {o : Outcome} {x : Read} {c : Fault} {q : ℕ} → row ≡ rowOf p id → row ≡ Row.No c q → o ≡ kindSays row → x ≡ noRead o → x ≡ told 0 none (given p id s)
+  pub given-none : {o : Outcome} {x : Read} {c : Fault} {q : ℕ} → row ≡ rowOf p id → row ≡ Row.No c q → o ≡ kindSays row .0 → x ≡ noRead o → x ≡ told 0 none (given p id s)
   unfolding given told
-  given-none e h f g = g ∙ ap noRead (f ∙ ap kindSays h) ∙ rw (← e, h, zero-add)
+  given-none e h f g = g ∙ ap noRead (f ∙ ap (λ (w : Row). kindSays w .0) h) ∙ rw (← e, h, zero-add)
 
   by : {k : Kind} → row ≡ rowOf p id → row ≡ Row.Is k → given p id s ≡ mapped (withData id) (whole (length s) (dataOf k .read s))
   unfolding given

@@ -122,6 +122,10 @@ shown-at {a = a} {n = n} s h = let z : a + n - a ≡ n = omega arith in rw z (ap
 pub shown-no : {v : View} {c : Fault} {q : ℕ} (s : List ℕ) → v ≡ No c q → [] ≡ shown v s
 shown-no s h = ap (λ (x : View). shown x s) (sym h)
 
+-- an empty part has the bytes of a refused view, wherever it lies; it is the view only where that starts
+pub shown-none : {v : View} {c : Fault} {q : ℕ} (s : List ℕ) (a : ℕ) → v ≡ No c q → take (a - a) (drop a s) ≡ shown v s
+shown-none s a h = let z : a - a ≡ 0 = omega arith in rw z (shown-no s h)
+
 pub from-at : {v : View} {a n : ℕ} (b o : ℕ) → v ≡ At a n → _≡_ {A = ℕ × ℕ} (b, a + o) (b, shownFrom v + o)
 from-at b o h = ap (λ (x : View). (b, shownFrom x + o)) (sym h)
 

@@ -4,10 +4,10 @@ use Rattle.lister.proofs.is_on.Statement.{statement}
 use Rattle.lister.proofs.is_on.Tie as tie
 
 returns : tie.Need-returns
-returns c = on-is (c .before .before .before .fixed .ensures) (c .before .f .given .1)
+returns c = on-is (c .before .before .before .fixed .ensures .0) (c .before .f .given .1)
 
 returns-2 : tie.Need-returns-2
-returns-2 c = on-none (c .before .before .fixed .ensures) (c .enum-told .given .1)
+returns-2 c = on-none (c .before .before .fixed .ensures .0) (c .enum-told .given .1)
 
 pub is-on-spec : {M : Type 1} → statement M
 is-on-spec =

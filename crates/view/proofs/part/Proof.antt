@@ -1,11 +1,11 @@
 use native.Mathlib.Omega.{arith}
-use Rattle.view.specs.View.{inside-at, shown-at, shown-no, from-at, from-no}
+use Rattle.view.specs.View.{inside-at, shown-at, shown-no, shown-none, from-at, from-no}
 use borrow.Author.Needs.{needs}
 use Rattle.view.proofs.part.Statement.{statement}
 use Rattle.view.proofs.part.Tie as tie
 
 returns : tie.Need-returns
-returns c = (search (needs, shown-no), search (needs, from-no))
+returns c = (search (needs, shown-no, shown-none), search (needs, from-no))
 
 add-b : tie.Need-add-b
 add-b c = omega (arith, inside-at _ (c .before .before .before .pre) (c .before .v .given .1))
