@@ -111,11 +111,11 @@ fn copy_rule(
     requires { ⌜ Sizes n k m a b (now buf) (now front) (now count) (now els) ⌝ }
     ensures { λ r. ⌜ Inserts n k m a b (now (front .entry)) (now (count .entry)) (now (els .entry)) (now (buf .entry)) r (now (buf .exit)) ⌝ }
 {
+    let len = front.len() + 6 + parts::head_size(k) + els.len();
+    let new = n + (len - lost_at(k, m));
     if 256 <= m {
         return Outcome::No(Fault::Rules, 0);
     }
-    let len = front.len() + 6 + parts::head_size(k) + els.len();
-    let new = n + (len - lost_at(k, m));
     if 60000 < new {
         return Outcome::No(Fault::Large, 0);
     }
