@@ -11,14 +11,15 @@ ghost use mathlib.Core.Path.{_≡_};
 ghost use mathlib.Core.Bool.{true};
 ghost use lib.ListN.{length};
 ghost use Rattle.buffer.specs.Laid.{putIn};
-ghost use Rattle.locate.specs.Located.{lastOf};
-ghost use Rattle.rule.specs.Parts.{headBytes};
-ghost use Rattle.parts.specs.Text.{textBytes};
+ghost use Rattle.locate.specs.Laws.Located.{lastOf};
+ghost use Rattle.rule.specs.Laws.Parts.{headBytes};
+ghost use Rattle.parts.specs.Laws.Text.{textBytes};
 ghost use Rattle.plan.specs.Given.{isText};
 ghost use Rattle.plan.specs.Edit.{addRule, addElement};
-ghost use Rattle.plan.specs.Found.{Edits, MakesAs};
-ghost use Rattle.add.specs.Element.{laterBytes, Grows};
-ghost use Rattle.add.specs.Rule.{keptBytes, frontBytes, backBytes, Extends};
+ghost use Rattle.plan.specs.Edit.{Edits};
+ghost use Rattle.plan.specs.Laws.Found.{MakesAs};
+ghost use Rattle.add.specs.Laws.Element.{laterBytes, Grows};
+ghost use Rattle.add.specs.Laws.Rule.{keptBytes, frontBytes, backBytes, Extends};
 
 // An element behind others of its rule: 8001 first.
 fn put_element(buf: &mut [u8], at: usize, identifier: u32, s: &[u8])

@@ -1,8 +1,3 @@
-pub mod Bounded
-pub mod Data
-pub mod Refused
-pub mod Places
-pub mod Faults
 pub mod Listed
-pub mod Faulty
 pub mod Calls
+pub mod Laws

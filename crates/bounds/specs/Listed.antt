@@ -1,18 +1,16 @@
 -- Every refusal is one of document 01's table, "Numbers a refusal gives": by a number that its call may give, at the place that its row has.
 -- Of a place that is a field's (3 and 6 to 13), only that it is at most 60,000.
 use Prim.Native.Nat.{ℕ, _+_, _≤_}
-use mathlib.Core.Path.{_≡_, refl}
+use mathlib.Core.Path.{_≡_}
 use mathlib.Core.Bool.{Bool, true, false, _&&_, _||_}
 use mathlib.Core.List.{List, [], _∷_}
 use lib.Dec.{leb, eqb}
-use borrow.Author.Tests.{le-leb}
 use Rattle.format.specs.declared.Fault.{Fault}
 use Rattle.format.specs.declared.Fault.the-variants as Fault
 use Rattle.format.specs.declared.Outcome.{Outcome}
 use Rattle.format.specs.declared.Outcome.the-variants as Outcome
 use Rattle.format.specs.Fault.{numberOf}
 use Rattle.format.specs.ReadWrite.{within}
-use Rattle.format.specs.Laws.ReadWrite.{within-fits}
 
 -- the table, in its order: number, when, and its place
 abbrev pub Listed : Fault → ℕ → Type 0
@@ -75,21 +73,3 @@ abbrev pub Lists : List Numbers → Outcome → Type 0
 Lists rows (Outcome.Done n) = Unit {0}
 Lists rows (Outcome.No c q) = (allowed rows (numberOf c) q ≡ true) × Listed c q
 Lists rows (Outcome.Given c q) = (allowed rows (numberOf c + 32) q ≡ true) × Listed c q
-
--- ---- laws
-
-pub allowed-first : (low high last : ℕ) (rows : List Numbers) (n q : ℕ) → low ≤ n → n ≤ high → q ≤ last → allowed (numbers low high last ∷ rows) n q ≡ true
-unfolding allowed
-allowed-first low high last rows n q f g h = rw (within-fits low high n f g, le-leb q last h)
-
-pub allowed-later : (row : Numbers) (rows : List Numbers) (n q : ℕ) → allowed rows n q ≡ true → allowed (row ∷ rows) n q ≡ true
-unfolding allowed
-allowed-later row rows n q e = by row
-  where
-    go : (b : Bool) → (b || allowed rows n q) ≡ true
-    go true = refl
-    go false = e
-
-    by : (row : Numbers) → allowed (row ∷ rows) n q ≡ true
-    by (numbers low high last) = go (within low high n && leb q last)
-    by (exactly m o) = go (eqb n m && eqb q o)

@@ -9,7 +9,8 @@ use borrow.Author.Fill.{fill-more}
 use lib.ListN.{length, take, drop, getD, set, length-take, length-drop, List·getD-append}
 use lib.Seq.{take-all, take-length, drop-length, slice-empty, getD-drop, getD-take, take-suc, drop-cons, take-take, set-at, length-take-le}
 use Rattle.format.specs.ReadWrite.{spelt}
-use Rattle.buffer.specs.Laid.{zeros, put, down, up, put-none, put-next}
+use Rattle.buffer.specs.Laid.{zeros, put}
+use Rattle.buffer.specs.Laws.Laid.{down, up, put-none, put-next}
 
 -- ---- bytes put from the front: what is left to put gives the same
 

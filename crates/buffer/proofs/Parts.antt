@@ -6,7 +6,8 @@ use mathlib.Core.Path.{_≡_, sym, ap, _∙_}
 use mathlib.Core.List.{List, [], _∷_, _++_, append-assoc, append-nil}
 use lib.ListN.{length, take, drop, length-append, length-drop}
 use lib.Seq.{take-nil, drop-nil, take-length, drop-length, drop-drop, take-take, take-add, take-at, length-take-le}
-use Rattle.buffer.specs.Laid.{zeros, put, putIn, down, up, pulled, moved, laid, opened, put-in, moved-in, opened-in, length-down}
+use Rattle.buffer.specs.Laid.{zeros, put, putIn, laid}
+use Rattle.buffer.specs.Laws.Laid.{down, up, pulled, moved, opened, put-in, moved-in, opened-in, length-down}
 
 -- a part from a to e is that of the first e bytes
 part-is : (a e : ℕ) (d : List ℕ) → take (e - a) (drop a d) ≡ drop a (take e d)

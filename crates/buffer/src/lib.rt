@@ -3,7 +3,8 @@ ghost use mathlib.Core.Path.{_≡_};
 ghost use Prim.Native.Nat.{_+_, _-_, _≤_};
 ghost use lib.ListN.{length};
 ghost use Rattle.format.specs.ReadWrite.{spelt, bit};
-ghost use Rattle.buffer.specs.Laid.{zeros, put, putIn, down, up, pulled, moved, opened};
+ghost use Rattle.buffer.specs.Laid.{zeros, put, putIn};
+ghost use Rattle.buffer.specs.Laws.Laid.{down, up, pulled, moved, opened};
 
 fn copy(p: &mut [u8], src: &[u8])
     requires { ⌜ length (now src) ≤ length (now p) ⌝ }

@@ -5,10 +5,11 @@ use format::Read;
 use locate::Spot;
 ghost use mathlib.Core.Path.{_≡_};
 ghost use Prim.Native.Nat.{ℕ, _<_};
-ghost use Rattle.locate.specs.Steps.{nameEnd};
+ghost use Rattle.locate.specs.Laws.Steps.{nameEnd};
 ghost use Rattle.plan.specs.Edit.{switch, rename};
-ghost use Rattle.plan.specs.Found.{Edits, Makes};
-ghost use Rattle.change.specs.Rename.{Named};
+ghost use Rattle.plan.specs.Edit.{Edits};
+ghost use Rattle.plan.specs.Laws.Found.{Makes};
+ghost use Rattle.change.specs.Laws.Rename.{Named};
 
 // Rule k of m, which stands from a to b.
 fn switch_at(buf: &mut [u8], n: usize, k: u64, m: u64, a: usize, b: usize, on: bool) -> Outcome

@@ -6,7 +6,7 @@ use mathlib.Core.List.{List, [], _∷_}
 use lib.Dec.{eqb}
 use lib.ListN.{getD}
 use Rattle.civil.specs.Calendar.{leap, lengths, monthDays}
-use Rattle.civil.specs.Steps.{row}
+use Rattle.civil.specs.Laws.Steps.{row}
 
 pub row-is : (y : ℕ) (a b c : Bool) → eqb (y % 4) 0 ≡ a → eqb (y % 100) 0 ≡ b → eqb (y % 400) 0 ≡ c → row ((a && not b) || c) ≡ row (leap y)
 unfolding leap

@@ -1,3 +1,2 @@
 pub mod Calendar
-pub mod Steps
-pub mod Unique
+pub mod Laws

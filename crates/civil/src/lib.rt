@@ -2,7 +2,7 @@
 ghost use mathlib.Core.Path.{_≡_};
 ghost use Prim.Native.Nat.{_<_};
 ghost use Rattle.civil.specs.Calendar.{leap, monthDays, yearDays, Valid, dayOf};
-ghost use Rattle.civil.specs.Steps.{row, Years, Months};
+ghost use Rattle.civil.specs.Laws.Steps.{row, Years, Months};
 
 pub struct Civil {
     pub year: u64,

@@ -3,7 +3,7 @@ use format::Fault;
 use format::Read;
 ghost use mathlib.Core.Path.{_≡_};
 ghost use lib.Ieee.{binary64, toBits};
-ghost use Rattle.format.specs.Seen.{seen, itself};
+ghost use Rattle.format.specs.Laws.Seen.{seen, itself};
 ghost use Rattle.date.specs.Double.{accepted};
 ghost use Rattle.date.specs.Date.{date};
 

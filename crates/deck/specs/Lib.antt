@@ -1,3 +1,4 @@
 pub mod Deck
 pub mod Sample
 pub mod Written
+pub mod Laws

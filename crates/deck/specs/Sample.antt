@@ -1,19 +1,7 @@
 -- Document 01, "One deck whole": the 70 bytes, and the rule that they are.
 use Prim.Native.Nat.{ℕ}
-use mathlib.Core.Path.{_≡_, refl}
-use mathlib.Core.Bool.{true}
 use mathlib.Core.List.{List, [], _∷_, _++_}
 use lib.ListN.{replicate}
-use Rattle.format.specs.Format.{got, shift, mapped, andThen, pick, whole}
-use Rattle.format.specs.ReadWrite.{pairRead, pairWrite, judgeOf, judge, home, numberRead, within, bit, value, spelt, eachRead, eachWrite, weighed}
-use Rattle.format.specs.Combinators.{pair, seq, _then_, judged, via, atStart, nothing, number, count, fixed, bytes, flag, each, counted, listed, sized, measured}
-use Rattle.text.specs.Text.{extended, stringLength, string}
-use Rattle.kind.specs.declared.Product.the-variants.{Studio}
-use Rattle.kind.specs.Kinds.{editionOf, has, rowIn, offered, rowOf, rowBy, kindOf}
-use Rattle.element.specs.Data.{plain, oneZero, simpleData}
-use Rattle.element.specs.Element.{identifier, element}
-use Rattle.rule.specs.Rule.{Rule, className, classHead, firstHead, head, placed, body, fromUnknown4, fromUnknown2, fields, rule}
-use Rattle.deck.specs.Deck.{mark, header, deck, readAs, readBy, readDeck}
 
 unfoldable pub sample : List ℕ
 sample =
@@ -26,15 +14,3 @@ sample =
     ++ (0x01 ∷ 0x00 ∷ [])
     ++ (0xFF ∷ 0xFF ∷ 0x00 ∷ 0x00 ∷ 0x0C ∷ 0x00 ∷ 0x43 ∷ 0x52 ∷ 0x75 ∷ 0x6C ∷ 0x65 ∷ 0x45 ∷ 0x6C ∷ 0x65 ∷ 0x6D ∷ 0x65 ∷ 0x6E ∷ 0x74 ∷ [])
     ++ (0xF5 ∷ 0x01 ∷ 0x00 ∷ 0x00 ∷ 0x01 ∷ 0x00 ∷ 0x00 ∷ 0x00 ∷ 0x00 ∷ 0x00 ∷ 0x00 ∷ 0x00 ∷ [])
-
-unfoldable pub ruleA : Rule
-ruleA = record { signature = 0; name = 0x41 ∷ []; on = true; unknown2 = 0; unknown3 = 0; unknown4 = 0; unknown5 = 0; elements = (0x1F5, plain) ∷ [] }
-
--- the 70 bytes are that rule alone, read and written
-pub sample-reads : readDeck 2 sample ≡ got (ruleA ∷ []) 70
-unfolding sample ruleA mark header deck whole readAs readBy readDeck className classHead firstHead head placed body fromUnknown4 fromUnknown2 fields rule identifier element oneZero simpleData editionOf has rowIn offered rowOf rowBy kindOf extended stringLength string sized measured weighed each eachRead counted listed number numberRead within count fixed bytes flag bit value pair pairRead seq _then_ judged judgeOf judge via home atStart nothing shift mapped andThen pick
-sample-reads = refl
-
-pub sample-writes : deck Studio .write (ruleA ∷ []) ≡ sample
-unfolding sample ruleA mark header deck className classHead firstHead head placed body fromUnknown4 fromUnknown2 fields rule identifier element oneZero simpleData has rowIn offered rowOf extended stringLength string sized measured each eachWrite counted listed number within count fixed bytes flag bit value spelt pair pairWrite seq _then_ judged via atStart nothing pick
-sample-writes = refl

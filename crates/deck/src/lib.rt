@@ -7,10 +7,11 @@ use kind::Product;
 ghost use mathlib.Core.Path.{_≡_};
 ghost use Prim.Native.Nat.{_≤_};
 ghost use Rattle.format.specs.Combinators.{each};
-ghost use Rattle.format.specs.Rows.{total};
-ghost use Rattle.format.specs.Seen.{seen, itself};
+ghost use Rattle.format.specs.Row.{total};
+ghost use Rattle.format.specs.Laws.Seen.{seen, itself};
 ghost use Rattle.rule.specs.Rule.{rule, elementsIn};
-ghost use Rattle.deck.specs.Deck.{header, readAs, readDeck, scanned, scanSays, noScan, answered};
+ghost use Rattle.deck.specs.Deck.{header, readAs, readDeck, scanned, scanSays, answered};
+ghost use Rattle.deck.specs.Laws.Deck.{noScan};
 
 // What a pass over a deck tells: the number of rules and that of their elements; or a fault with its place.
 pub enum Scan {

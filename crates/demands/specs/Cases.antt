@@ -3,7 +3,6 @@ use Prim.Native.Nat.{ℕ, _+_, _-_, _*_}
 use mathlib.Core.Path.{_≡_, refl}
 use mathlib.Core.Bool.{Bool, true, false, not, _&&_}
 use mathlib.Core.List.{List, [], _∷_}
-use lib.ListN.{length}
 use lib.Dec.{T, eqb, leb, eqb→eq, leb→le}
 use lib.Ieee.Bits.{is-true}
 use lib.Ieee.Fits.{and-l, and-r}
@@ -18,7 +17,8 @@ use Rattle.civil.specs.Calendar.{leap, monthDays, monthsDays, yearsDays, Valid,
 use Rattle.date.specs.Double.{negative, size, day, accepted}
 use Rattle.moment.specs.declared.Moment.{Moment}
 use Rattle.moment.specs.declared.Moment.the-variants as Moment
-use Rattle.moment.specs.Moment.{origin, dayIn, secondIn, momentSays, Says, says-at, says-no}
+use Rattle.moment.specs.Moment.{origin, dayIn, secondIn, momentSays, Says}
+use Rattle.moment.specs.Laws.Moment.{says-at, says-no}
 use Rattle.text.specs.Text.{extended, stringLength, string}
 use Rattle.kind.specs.declared.Role.the-variants.{Condition}
 use Rattle.kind.specs.declared.Kind.{Kind}

@@ -14,7 +14,8 @@ use Rattle.format.specs.declared.Fault.the-variants as Fault
 use Rattle.format.specs.declared.Outcome.{Outcome}
 use Rattle.format.specs.declared.Outcome.the-variants as Outcome
 use Rattle.format.specs.Fault.{numberOf, codeOf, Said}
-use Rattle.format.specs.Format.{Answer, got, refused, mapped, whole, pick, one, Format, Bytes}
+use Rattle.format.specs.Format.{Answer, got, refused, mapped, whole, pick, Format, Bytes}
+use Rattle.format.specs.Laws.Format.{one}
 use Rattle.format.specs.ReadWrite.{within}
 use Rattle.kind.specs.declared.Product.{Product}
 use Rattle.kind.specs.declared.Edition.{Edition}
@@ -29,7 +30,6 @@ use Rattle.moment.specs.Moment.{momentSays, SaysBy, Says}
 use Rattle.element.specs.Data.{Data, dataOf}
 use Rattle.value.specs.declared.Value.{Value}
 use Rattle.value.specs.declared.Value.the-variants as Value
-use Rattle.value.specs.declared.Valued.the-variants as Valued
 use Rattle.value.specs.Value.{valueSays, valueAnswer, fromData, fromKind, fromRow, fromEdition, valueOf}
 use Rattle.put.specs.Plan.{Fitted, holds, lacks, fromSpan, fromValue, isOf, fitted, write, deny, ifRoom, planData, planKind, planRow, planEdition, putting, putSays, Putting, putLeaves}
 use Rattle.rule.specs.Rule.{Rule}
@@ -38,16 +38,18 @@ use Rattle.tables.specs.Tables.{tabled, readSays, rulesLeft, rulesAfter, elemen
 use Rattle.view.specs.View.{viewSays, nameView}
 use Rattle.view.specs.Word.{wordView}
 use Rattle.view.specs.Fixed.{fixedFields, fieldsSay}
-use Rattle.plan.specs.Edit.{Edit, Plan, become, refuse, refuseGiven, planned, says, leaves}
+use Rattle.plan.specs.Edit.{Edit, Plan, become, refuse, refuseGiven, planned, says, leaves, Edits}
 use Rattle.plan.specs.Given.{given, givenBy, withData}
 use Rattle.plan.specs.Handed.{Handed}
-use Rattle.plan.specs.Found.{Edits}
-use Rattle.start.specs.Start.{startSays, startLeaves, start-none}
-use Rattle.bounds.specs.Data.{row-refuses}
-use Rattle.bounds.specs.Refused.{as-refused}
-use Rattle.bounds.specs.Listed.{Numbers, numbers, exactly, allowed, allowed-later, Lists}
-use Rattle.bounds.specs.Faulty.{elementNumbers, ElementListed, element-listed}
-use Rattle.bounds.specs.Calls.{checkNumbers, check-listed, pass-listed, readNumbers, read-listed, viewNumbers, name-listed, word-listed, fixed-listed, editNumbers, edit-listed}
+use Rattle.start.specs.Start.{startSays, startLeaves}
+use Rattle.start.specs.Laws.Start.{start-none}
+use Rattle.bounds.specs.Laws.Data.{row-refuses}
+use Rattle.bounds.specs.Laws.Refused.{as-refused}
+use Rattle.bounds.specs.Listed.{Numbers, numbers, exactly, allowed, Lists}
+use Rattle.bounds.specs.Laws.Listed.{allowed-later}
+use Rattle.bounds.specs.Calls.{elementNumbers, checkNumbers, readNumbers, viewNumbers, editNumbers}
+use Rattle.bounds.specs.Laws.Faulty.{ElementListed, element-listed}
+use Rattle.bounds.specs.Laws.Calls.{check-listed, pass-listed, read-listed, name-listed, word-listed, fixed-listed, edit-listed}
 
 -- the answer and the buffer of an edit are functions of what it was called with: two outcomes that the promise allows coincide
 pub edits-coincide : (edition n : ℕ) (e : Edit) (d : List ℕ) {r q : Outcome} {x y : List ℕ} → Edits edition n e d r x → Edits edition n e d q y → (r ≡ q) × (x ≡ y)

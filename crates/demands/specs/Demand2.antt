@@ -18,7 +18,8 @@ use Rattle.kind.specs.declared.Row.the-variants.{Is, No}
 use Rattle.kind.specs.Kinds.{kinds, has, inProduct, identifiers, rowIn, offered, rowOf}
 use Rattle.element.specs.Element.{isRow}
 use Rattle.rule.specs.Rule.{Rule}
-use Rattle.deck.specs.Deck.{deck, readAs, read-writes-back, written-reads-back}
+use Rattle.deck.specs.Deck.{deck, readAs}
+use Rattle.deck.specs.Laws.Deck.{read-writes-back, written-reads-back}
 
 -- both ways, in both editions
 pub written-then-read : (p : Product) (rs : List Rule) → deck p .Fit rs → length (deck p .write rs) ≤ 60000 → readAs p (deck p .write rs) ≡ got rs (length (deck p .write rs))

@@ -9,7 +9,8 @@ use lib.ListN.{length, take}
 use borrow.Author.Tests.{ne-eqb}
 use Rattle.format.specs.declared.Outcome.{Outcome}
 use Rattle.format.specs.declared.Outcome.the-variants as Outcome
-use Rattle.format.specs.Fault.{numberOf, numbered, codeOf, placeOf, packed, packed-code, packed-place}
+use Rattle.format.specs.Fault.{numberOf, codeOf, placeOf, packed}
+use Rattle.format.specs.Laws.Fault.{numbered, packed-code, packed-place}
 use Rattle.format.specs.Format.{got, Bytes, pick}
 use Rattle.kind.specs.declared.Product.{Product}
 use Rattle.kind.specs.declared.Product.the-variants.{Studio}
@@ -17,11 +18,12 @@ use Rattle.kind.specs.declared.Edition.the-variants as Edition
 use Rattle.kind.specs.Kinds.{editionOf}
 use Rattle.rule.specs.Rule.{Rule}
 use Rattle.deck.specs.Deck.{readAs}
-use Rattle.plan.specs.Edit.{Edit, planned, says}
-use Rattle.plan.specs.Found.{Edits}
+use Rattle.plan.specs.Edit.{Edit, planned, says, Edits}
 use Rattle.start.specs.Start.{startSays, startLeaves}
-use Rattle.runs.specs.Run.{Buffer, Call, Promise, Ran, Steps, step, lengthFrom, edit-step, Called, called, runRules}
-use Rattle.runs.specs.Left.{Left, at-accepted, at-start, calls, runIn, left-by, left-in}
+use Rattle.runs.specs.Run.{Buffer, Call, Promise, Ran, Steps, step, lengthFrom, Called, runRules}
+use Rattle.runs.specs.Laws.Run.{edit-step, called}
+use Rattle.runs.specs.Left.{Left, calls, runIn}
+use Rattle.runs.specs.Laws.Left.{at-accepted, at-start, left-by, left-in}
 use Rattle.rule_deck.specs.Sent.{Sends, lengthSent}
 
 -- ---- whatever an edit of the library promises is a step of a run: the buffer that it leaves, and the length that it answers or, refused, the old one

@@ -6,3 +6,4 @@ pub mod Tables
 pub mod Demand3
 pub mod RoundTrip
 pub mod Cases
+pub mod Laws

@@ -35,8 +35,8 @@ use Rattle.value.specs.declared.Value.the-variants as Value
 use Rattle.value.specs.declared.Valued.{Valued}
 use Rattle.value.specs.declared.Valued.the-variants as Valued
 use Rattle.value.specs.Value.{floats, valueIn, fromData, fromKind, fromRow, fromEdition, valueOf}
-use Rattle.put.specs.Plan.{afterOf, beforeOf, Fitted, holds, lacks, fromSpan, fromValue, shape, isOf, Putting, write, deny, ifRoom, planData, planKind, planRow, planEdition, putting}
-use Rattle.put.specs.Put.{Puts, formatBy, shaped, shapeOf, of-shape}
+use Rattle.put.specs.Plan.{afterOf, beforeOf, Fitted, holds, lacks, fromSpan, fromValue, shape, isOf, Putting, write, deny, ifRoom, planData, planKind, planRow, planEdition, putting, Puts}
+use Rattle.put.specs.Laws.Put.{formatBy, shaped, shapeOf, of-shape}
 
 -- ---- what each promise allows is one outcome
 

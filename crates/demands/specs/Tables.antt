@@ -16,21 +16,23 @@ use Rattle.format.specs.Format.{Format, Answer, got, refused, Bytes, pick}
 use Rattle.format.specs.ReadWrite.{pairWrite, eachWrite}
 use Rattle.format.specs.Laws.ReadWrite.{length-spelt}
 use Rattle.format.specs.Combinators.{pair, via, judged, seq, _then_, number, fixed}
-use Rattle.format.specs.Rows.{total}
-use Rattle.format.specs.Skip.{startIn}
+use Rattle.format.specs.Row.{total, startIn}
 use Rattle.kind.specs.declared.Product.{Product}
 use Rattle.kind.specs.declared.Edition.{Edition}
 use Rattle.kind.specs.declared.Edition.the-variants as Edition
 use Rattle.kind.specs.Kinds.{kinds, rowIn, editionOf}
 use Rattle.element.specs.Element.{Element, dataBy, element, identifier}
 use Rattle.rule.specs.Rule.{Rule, rule, placed, separator, elementsIn}
-use Rattle.rule.specs.Places.{ruleBytes, unitsAt, elementsAt, dataAt, rule-parts, placed-parts}
+use Rattle.rule.specs.Places.{ruleBytes, unitsAt, elementsAt, dataAt}
+use Rattle.rule.specs.Laws.Places.{rule-parts, placed-parts}
 use Rattle.deck.specs.Deck.{readAs}
-use Rattle.deck.specs.Written.{startOf, start-as}
+use Rattle.deck.specs.Written.{startOf}
+use Rattle.deck.specs.Laws.Written.{start-as}
 use Rattle.tables.specs.Tables.{rowsOf, ruleWidth, elementWidth, ruleRow, ruleRows, elementRow, ruleElementRows, allElementRows, inTables, tabled, filled, readSays, rulesAfter, elementsAfter}
-use Rattle.tables.specs.Fill.{total-one}
-use Rattle.tables.specs.Parts.{element-rows-long, rule-rows-long, all-rows-long}
-use Rattle.demands.specs.Places.{Between, UnitsOf, elementStart, between, string-units, rule-stands, element-stands}
+use Rattle.tables.specs.Laws.Fill.{total-one}
+use Rattle.tables.specs.Laws.Parts.{element-rows-long, rule-rows-long, all-rows-long}
+use Rattle.demands.specs.Places.{Between, UnitsOf, elementStart}
+use Rattle.demands.specs.Laws.Places.{between, string-units, rule-stands, element-stands}
 
 -- "Per rule, four: start, end, first byte of the name's units, number of elements": a row of rule k of rs, which is r
 pub record RuleRow (p : Product) (s : List ℕ) (rs : List Rule) (k : ℕ) (r : Rule) (row : List ℕ) : Type 0 where

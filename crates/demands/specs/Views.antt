@@ -12,13 +12,15 @@ use Rattle.kind.specs.Kinds.{kinds, rowIn, editionOf}
 use Rattle.element.specs.Data.{words}
 use Rattle.element.specs.Element.{Element}
 use Rattle.rule.specs.Rule.{Rule}
-use Rattle.rule.specs.Places.{dataAt, rule-parts, placed-parts}
+use Rattle.rule.specs.Places.{dataAt}
+use Rattle.rule.specs.Laws.Places.{rule-parts, placed-parts}
 use Rattle.deck.specs.Deck.{readAs}
 use Rattle.deck.specs.Written.{startOf}
 use Rattle.view.specs.Asked.{asked}
 use Rattle.view.specs.View.{shown, nameView}
 use Rattle.view.specs.Word.{wordView}
-use Rattle.demands.specs.Places.{UnitsOf, elementStart, stands-in, string-units, word-units, words-row, rule-stands, element-stands}
+use Rattle.demands.specs.Places.{UnitsOf, elementStart}
+use Rattle.demands.specs.Laws.Places.{stands-in, string-units, word-units, words-row, rule-stands, element-stands}
 
 -- the deck s was read as the rules rs
 module _ (edition : ℕ) (p : Product) (ed : editionOf edition ≡ Edition.Of p) (s : List ℕ) (rs : List Rule) (n : ℕ) (bs : Bytes s) (e : readAs p s ≡ got rs n) where

@@ -3,7 +3,7 @@ use format::Read;
 use kind::Kind;
 ghost use mathlib.Core.Path.{_≡_};
 ghost use Rattle.format.specs.Combinators.{each};
-ghost use Rattle.format.specs.Seen.{seen, none};
+ghost use Rattle.format.specs.Laws.Seen.{seen, none};
 ghost use Rattle.text.specs.Text.{word};
 ghost use Rattle.element.specs.Data.{oneZero, markerData, wordData, sizeData, limit, dateData, dataOf};
 

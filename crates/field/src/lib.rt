@@ -4,7 +4,7 @@ use format::Read;
 ghost use mathlib.Core.Path.{_≡_};
 ghost use Rattle.format.specs.ReadWrite.{bit};
 ghost use Rattle.format.specs.Combinators.{count, fixed, flag};
-ghost use Rattle.format.specs.Seen.{seen, itself, none, judgedCount, judgedFixed};
+ghost use Rattle.format.specs.Laws.Seen.{seen, itself, none, judgedCount, judgedFixed};
 
 // A number that was read, as a count: it must be from low to high.
 fn judged_count(r: Read, at: usize, low: u64, high: u64) -> Read

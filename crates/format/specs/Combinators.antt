@@ -9,7 +9,8 @@ use lib.Dec.{leb, eqb}
 use borrow.Author.Tests.{leb-true, eqb-true}
 use Rattle.format.specs.declared.Fault.{Fault}
 use Rattle.format.specs.declared.Fault.the-variants.{Count, Field}
-use Rattle.format.specs.Format.{got, mapped, endOf, Format, end-mapped}
+use Rattle.format.specs.Format.{got, mapped, endOf, Format}
+use Rattle.format.specs.Laws.Format.{end-mapped}
 use Rattle.format.specs.ReadWrite.{pairRead, pairWrite, PairFit, judgeOf, JudgedFit, ViaFit, home, value, spelt, numberRead, within, bit, eachRead, eachWrite, EachFit, weighed, WeighedFit}
 use Rattle.format.specs.Laws.ReadWrite.{pair-back, pair-forth, pair-inside, judged-back, judged-forth, judged-end, via-back, via-forth, start-back, start-forth, start-inside, nothing-forth, number-back, number-forth, number-inside, bit-eqb, each-back, each-forth, each-inside, end-weighed, weighed-back, weighed-forth}
 

@@ -1,2 +1,11 @@
+pub mod Fault
+pub mod Format
 pub mod ReadWrite
 pub mod Combinators
+pub mod Seen
+pub mod Rows
+pub mod Written
+pub mod Parts
+pub mod Sizes
+pub mod Back
+pub mod Skip

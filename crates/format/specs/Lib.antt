@@ -2,11 +2,5 @@ pub mod Fault
 pub mod Format
 pub mod ReadWrite
 pub mod Combinators
-pub mod Seen
-pub mod Rows
-pub mod Written
-pub mod Parts
-pub mod Sizes
-pub mod Back
-pub mod Skip
+pub mod Row
 pub mod Laws

@@ -1,6 +1,6 @@
 -- How formats made of formats read and write, and which values they can write. Combinators.antt makes formats of these; that they keep a
 -- format's laws is in Laws/ReadWrite.antt.
-use Prim.Native.Nat.{ℕ, zero, suc, _+_, _*_, _/_, _%_, _≤_}
+use Prim.Native.Nat.{ℕ, zero, suc, _+_, _*_, _/_, _%_}
 use mathlib.Core.Path.{_≡_}
 use mathlib.Core.Bool.{Bool, true, false, _&&_}
 use mathlib.Core.List.{List, [], _∷_, _++_}
@@ -8,7 +8,7 @@ use lib.ListN.{length, take, drop}
 use lib.Dec.{leb}
 use Rattle.format.specs.declared.Fault.{Fault}
 use Rattle.format.specs.declared.Fault.the-variants.{Cut}
-use Rattle.format.specs.Format.{Answer, got, refused, shift, mapped, andThen, pick, Format}
+use Rattle.format.specs.Format.{Answer, got, refused, mapped, andThen, pick, Format}
 
 -- a value of a, then one of the format that it picks
 module _ {A B : Type 0} (a : Format A) (b : A → Format B) where

@@ -1,7 +1,8 @@
 // Answers: a value or a fault, and their numbers.
 ghost use mathlib.Core.Path.{_≡_};
-ghost use Rattle.format.specs.Fault.{numberOf, endSays, noRead, inGiven};
-ghost use Rattle.format.specs.Seen.{toldNothing};
+ghost use Rattle.format.specs.Fault.{numberOf};
+ghost use Rattle.format.specs.Laws.Fault.{endSays, noRead, inGiven};
+ghost use Rattle.format.specs.Laws.Seen.{toldNothing};
 
 // The rows of document 01's table "Numbers a refusal gives"; specs/Fault.antt has their numbers.
 pub enum Fault {

@@ -5,8 +5,9 @@ use kind::Kind;
 use kind::Product;
 use kind::Row;
 ghost use mathlib.Core.Path.{_≡_};
-ghost use Rattle.format.specs.Seen.{seen};
-ghost use Rattle.element.specs.Element.{element, named};
+ghost use Rattle.format.specs.Laws.Seen.{seen};
+ghost use Rattle.element.specs.Element.{element};
+ghost use Rattle.element.specs.Laws.Element.{named};
 ghost use Rattle.element.specs.Data.{dataOf};
 
 // The data of a kind, of which the identifier is told.

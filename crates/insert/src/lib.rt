@@ -8,10 +8,11 @@ ghost use Prim.Native.Nat.{_+_, _-_, _≤_, _<_};
 ghost use lib.ListN.{length};
 ghost use Rattle.buffer.specs.Laid.{putIn};
 ghost use Rattle.plan.specs.Edit.{insert};
-ghost use Rattle.plan.specs.Found.{Edits, Makes, Within};
-ghost use Rattle.insert.specs.Copy.{copied, copySize};
-ghost use Rattle.insert.specs.Place.{lost, Opens};
-ghost use Rattle.insert.specs.Insert.{Sizes, Copied, Inserts, Copies, Copyable};
+ghost use Rattle.plan.specs.Edit.{Edits};
+ghost use Rattle.plan.specs.Laws.Found.{Makes, Within};
+ghost use Rattle.insert.specs.Laws.Copy.{copied, copySize};
+ghost use Rattle.insert.specs.Laws.Place.{lost, Opens};
+ghost use Rattle.insert.specs.Laws.Insert.{Sizes, Copied, Inserts, Copies, Copyable};
 
 // How many bytes the rules from place k of m lose where a rule comes before them: the old first rule gives its long head up.
 fn lost_at(k: u64, m: u64) -> usize

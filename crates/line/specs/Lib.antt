@@ -1,3 +1,2 @@
 pub mod Line
-pub mod Adds
-pub mod Example
+pub mod Laws

@@ -9,7 +9,7 @@ ghost use mathlib.Core.Path.{_≡_};
 ghost use lib.ListN.{length};
 ghost use Rattle.view.specs.Fixed.{fixedFields};
 ghost use Rattle.view.specs.View.{nameView};
-ghost use Rattle.line.specs.Adds.{Lined};
+ghost use Rattle.line.specs.Line.{Lined};
 ghost use Rattle.lister.specs.Listed.{entry as Listed·entry, isOn, unitsOf, ruleListed, elementListed};
 
 // Number j of row i of a table of rows of four.

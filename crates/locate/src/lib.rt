@@ -5,8 +5,8 @@ use format::Outcome;
 use format::Read;
 ghost use mathlib.Core.Path.{_≡_};
 ghost use Rattle.deck.specs.Deck.{readDeck};
-ghost use Rattle.locate.specs.Located.{located, lastOf, spotSays, noSpot};
-ghost use Rattle.locate.specs.Steps.{nameRead, Follows, Reached, Spots};
+ghost use Rattle.locate.specs.Laws.Located.{located, lastOf, spotSays, noSpot};
+ghost use Rattle.locate.specs.Laws.Steps.{nameRead, Follows, Reached, Spots};
 
 // The number of rules, where rule k starts and where it ends; past the last rule both are the end of the deck.
 pub enum Spot {

@@ -12,7 +12,8 @@ use lib.Pow.{pow-pos, pow-add, pow-mono, pow-lt}
 use borrow.Author.Tests.{le-leb, lt-leb}
 use Rattle.format.specs.Format.{pick}
 use Rattle.date.specs.Double.{negative, exponent, digits, scaled, size, day, bound, accepted}
-use Rattle.moment.specs.Moment.{origin-is, wholeDays, dayIn}
+use Rattle.moment.specs.Laws.Moment.{origin-is}
+use Rattle.moment.specs.Moment.{wholeDays, dayIn}
 
 -- ---- a day is 2 ^ k times the weight of a digit
 day-pos : 0 < day

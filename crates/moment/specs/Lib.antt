@@ -1,2 +1,2 @@
 pub mod Moment
-pub mod One
+pub mod Laws

@@ -1,6 +1,6 @@
 -- What a date says: document 01, "Dates".
 use Prim.Native.Nat.{ℕ, _+_, _-_, _*_, _/_, _%_}
-use mathlib.Core.Path.{_≡_, refl}
+use mathlib.Core.Path.{_≡_}
 use mathlib.Core.Bool.{Bool, true, false}
 use mathlib.Core.List.{[], _∷_}
 use Rattle.format.specs.declared.Outcome.the-variants as Outcome
@@ -8,7 +8,7 @@ use Rattle.format.specs.Fault.{Said}
 use Rattle.format.specs.Format.{pick}
 use Rattle.format.specs.declared.Fault.the-variants as Fault
 use Rattle.civil.specs.declared.Civil.{Civil}
-use Rattle.civil.specs.Calendar.{leap, monthsDays, yearsDays, Valid, dayOf}
+use Rattle.civil.specs.Calendar.{Valid, dayOf}
 use Rattle.date.specs.Double.{negative, size, day, accepted}
 use Rattle.moment.specs.declared.Moment.{Moment}
 use Rattle.moment.specs.declared.Moment.the-variants.{At, No}
@@ -16,10 +16,6 @@ use Rattle.moment.specs.declared.Moment.the-variants.{At, No}
 -- "days from 30 December 1899"
 unfoldable pub origin : ℕ
 origin = dayOf (record { year = 1899; month = 12; day = 30 })
-
-pub origin-is : origin ≡ 657434
-unfolding origin dayOf yearsDays monthsDays leap
-origin-is = refl
 
 -- "The whole part, cut toward zero, gives the day"
 abbrev pub wholeDays : ℕ → ℕ
@@ -44,13 +40,3 @@ SaysBy false bits x = x ≡ momentSays (No Fault.Date 0)
 
 unfoldable pub Says : ℕ → Moment → Type 0
 Says bits r = SaysBy (accepted bits) bits (momentSays r)
-
--- as the code finds it
-module _ (bits : ℕ) where
-  pub says-at : (c : Civil) (second : ℕ) → accepted bits ≡ true → Valid c × (dayOf c ≡ dayIn bits) → second ≡ secondIn bits → Says bits (At c second)
-  unfolding Says
-  says-at c second e d h = rw (e, h) (c, (d, refl))
-
-  pub says-no : accepted bits ≡ false → Says bits (No Fault.Date 0)
-  unfolding Says
-  says-no e = rw e refl

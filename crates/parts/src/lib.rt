@@ -4,9 +4,9 @@ ghost use mathlib.Core.List.{_++_};
 ghost use Prim.Native.Nat.{_≤_};
 ghost use lib.ListN.{length};
 ghost use Rattle.format.specs.ReadWrite.{spelt};
-ghost use Rattle.rule.specs.Parts.{headBytes};
+ghost use Rattle.rule.specs.Laws.Parts.{headBytes};
 ghost use Rattle.buffer.specs.Laid.{putIn};
-ghost use Rattle.parts.specs.Text.{textBytes, textSize};
+ghost use Rattle.parts.specs.Laws.Text.{textBytes, textSize};
 
 // How many bytes a String is written in whose units are s; 0 where it is none.
 pub fn text_size(s: &[u8]) -> usize

@@ -21,6 +21,7 @@ use Rattle.deck.specs.Deck.{readAs}
 use Rattle.deck.specs.Written.{written}
 use Rattle.buffer.specs.Laid.{laid}
 use Rattle.plan.specs.Given.{isText, units, given}
+use mathlib.Core.Path.{_≡_}
 
 -- the seven edits, and what each is asked with: numbers of rules, texts as their bytes, the second deck, an element as identifier and data
 pub data Edit : Type 0 where
@@ -148,3 +149,7 @@ unfoldable pub leaves : ℕ → List ℕ → Plan → List ℕ
 leaves n d (become rs) = laid (written rs) (max n (length (written rs))) d
 leaves n d (refuse c q) = d
 leaves n d (refuseGiven c q) = d
+
+-- the promise of every edit: r is answered and the buffer d becomes d′
+abbrev pub Edits : ℕ → ℕ → Edit → List ℕ → Outcome → List ℕ → Type 0
+Edits edition n e d r d′ = (r ≡ says (planned edition n d e)) × (d′ ≡ leaves n d (planned edition n d e))

@@ -6,10 +6,10 @@ use kind::Product;
 use kind::Row;
 use locate::Spot;
 ghost use mathlib.Core.Path.{_≡_};
-ghost use Rattle.locate.specs.Located.{lastOf};
-ghost use Rattle.format.specs.Seen.{told, none};
+ghost use Rattle.locate.specs.Laws.Located.{lastOf};
+ghost use Rattle.format.specs.Laws.Seen.{told, none};
 ghost use Rattle.plan.specs.Given.{isText, given};
-ghost use Rattle.plan.specs.Found.{found};
+ghost use Rattle.plan.specs.Laws.Found.{found};
 
 // The deck in the first n bytes of a buffer, and where its rule k stands: 1, 15, 2 to 13.
 pub fn find(edition: u64, buf: &[u8], n: usize, k: u64) -> Spot

@@ -3,7 +3,7 @@ use Prim.Native.Nat.{ℕ}
 use mathlib.Core.Bool.{Bool, _&&_}
 use mathlib.Core.List.{List, _++_}
 use lib.Dec.{leb, eqb}
-use lib.ListN.{length, drop}
+use lib.ListN.{length, drop, set}
 use lib.Ieee.{Float, binary64, toBits}
 use Rattle.format.specs.declared.Fault.{Fault}
 use Rattle.format.specs.declared.Fault.the-variants as Fault
@@ -22,6 +22,7 @@ use Rattle.element.specs.Data.{Data, plain, sizes, span, Limit, dataOf}
 use Rattle.value.specs.declared.Span.{Span}
 use Rattle.value.specs.declared.Value.{Value}
 use Rattle.value.specs.declared.Value.the-variants as Value
+use mathlib.Core.Path.{_≡_}
 
 -- what a value is as data, or a fault with its place
 pub data Fitted : Type 0 where
@@ -103,3 +104,7 @@ putSays (deny o) = o
 unfoldable pub putLeaves : List ℕ → Putting → List ℕ
 putLeaves buf (write bs) = bs ++ drop (length bs) buf
 putLeaves buf (deny o) = buf
+
+-- what a plan is to the answer and the buffer
+abbrev pub Puts : List ℕ → Putting → Outcome → List ℕ → Type 0
+Puts xs p r ys = (r ≡ putSays p) × (ys ≡ putLeaves xs p)

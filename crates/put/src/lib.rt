@@ -15,7 +15,8 @@ ghost use Rattle.buffer.specs.Laid.{putIn};
 ghost use Rattle.date.specs.Double.{accepted};
 ghost use Rattle.element.specs.Data.{plain, sizes, oneZero, markerData, simpleData, sizeData, limit, dateData};
 ghost use Rattle.put.specs.Plan.{shape, isOf, fromSpan, ifRoom, planData, planKind, putting, putSays, putLeaves};
-ghost use Rattle.put.specs.Put.{Puts, limitOf, spanData};
+ghost use Rattle.put.specs.Plan.{Puts};
+ghost use Rattle.put.specs.Laws.Put.{limitOf, spanData};
 
 // 1, 0: two words of 4 bytes, written as one number.
 fn put_one_zero(buf: &mut [u8])
@@ -145,8 +146,8 @@ pub fn put_value(edition: u64, identifier: u32, value: Value, buf: &mut [u8]) ->
         return Outcome::No(Fault::Edition, 0);
     };
     let row = row::row_for(product, identifier as u64);
-    match row {
-        Row::Is(kind) => put_as(kind, identifier, value, buf),
-        Row::No(c, p) => Outcome::Given(c, p),
-    }
+    let Row::Is(kind) = row else {
+        return format::in_given(kind::kind_says(row));
+    };
+    put_as(kind, identifier, value, buf)
 }

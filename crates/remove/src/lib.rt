@@ -7,10 +7,11 @@ ghost use mathlib.Core.Path.{_≡_};
 ghost use Prim.Native.Nat.{ℕ, _+_, _-_, _^_, _≤_, _<_};
 ghost use Rattle.format.specs.ReadWrite.{spelt};
 ghost use Rattle.buffer.specs.Laid.{putIn};
-ghost use Rattle.locate.specs.Steps.{nameEnd};
+ghost use Rattle.locate.specs.Laws.Steps.{nameEnd};
 ghost use Rattle.plan.specs.Edit.{remove};
-ghost use Rattle.plan.specs.Found.{Edits, Makes, Within};
-ghost use Rattle.remove.specs.Remove.{Second, led};
+ghost use Rattle.plan.specs.Edit.{Edits};
+ghost use Rattle.plan.specs.Laws.Found.{Makes, Within};
+ghost use Rattle.remove.specs.Laws.Remove.{Second, led};
 
 // The number of rules, which was m, is one less.
 fn one_less(buf: &mut [u8], m: u64)

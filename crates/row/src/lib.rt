@@ -7,7 +7,7 @@ use kind::Role;
 use kind::Row;
 ghost use mathlib.Core.Path.{_≡_};
 ghost use Rattle.kind.specs.Kinds.{rowIn, kinds, rowOf, kindSays, kindOf};
-ghost use Rattle.row.specs.Lines.{rowAt, digitOf, lineOf, lacksAt};
+ghost use Rattle.row.specs.Laws.Lines.{rowAt, digitOf, lineOf, lacksAt};
 
 // The rows of the sixteen identifiers from 16 n on, a digit of four bits each, the lowest first: by `row_at`.
 fn line_of(n: u64) -> u64

@@ -1,3 +1,3 @@
 pub mod Rule
-pub mod Parts
 pub mod Places
+pub mod Laws

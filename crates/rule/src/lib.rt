@@ -7,9 +7,10 @@ ghost use Prim.Native.Nat.{_+_};
 ghost use lib.Dec.{eqb};
 ghost use lib.ListN.{length};
 ghost use Rattle.format.specs.Combinators.{each, sized};
-ghost use Rattle.element.specs.Element.{named};
-ghost use Rattle.format.specs.Seen.{seen, none};
-ghost use Rattle.rule.specs.Rule.{separator, classHead, head, leadAt, placed, body, fromUnknown4, fromUnknown2, rule, elementsIn};
+ghost use Rattle.element.specs.Laws.Element.{named};
+ghost use Rattle.format.specs.Laws.Seen.{seen, none};
+ghost use Rattle.rule.specs.Rule.{separator, classHead, head, placed, body, fromUnknown4, fromUnknown2, rule, elementsIn};
+ghost use Rattle.rule.specs.Laws.Rule.{leadAt};
 
 // The fixed fields of a rule; the signature is with Unknown1.
 pub struct Fields {

@@ -1,5 +1,2 @@
 pub mod Tables
-pub mod Fill
-pub mod Parts
-pub mod Whole
-pub mod Cases
+pub mod Laws

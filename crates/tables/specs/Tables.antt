@@ -7,7 +7,7 @@ use Rattle.format.specs.declared.Fault.the-variants as Fault
 use Rattle.format.specs.declared.Outcome.{Outcome}
 use Rattle.format.specs.declared.Outcome.the-variants.{Done, No, Given}
 use Rattle.format.specs.Format.{Answer, got, refused, pick, Format}
-use Rattle.format.specs.Rows.{total}
+use Rattle.format.specs.Row.{total}
 use Rattle.kind.specs.declared.Product.{Product}
 use Rattle.kind.specs.declared.Edition.{Edition}
 use Rattle.kind.specs.declared.Edition.the-variants as Edition

@@ -13,8 +13,8 @@ ghost use Rattle.kind.specs.Kinds.{editionOf};
 ghost use Rattle.rule.specs.Places.{dataAt};
 ghost use Rattle.tables.specs.Tables.{inTables, readSays, rulesAfter, elementsAfter};
 ghost use Rattle.buffer.specs.Laid.{put};
-ghost use Rattle.tables.specs.Fill.{Small, Under, ElementsFill};
-ghost use Rattle.tables.specs.Parts.{BodyFill, PartFill, RuleFill, RulesFill};
+ghost use Rattle.tables.specs.Laws.Fill.{Small, Under, ElementsFill};
+ghost use Rattle.tables.specs.Laws.Parts.{BodyFill, PartFill, RuleFill, RulesFill};
 
 // The numbers of a row.
 const RULE_WIDTH: usize = 4;

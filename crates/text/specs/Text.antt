@@ -1,20 +1,11 @@
 -- Strings and words: document 01, "The deck"; source document 001, sections 2.2.2 and 2.2.3.
-use Prim.Native.Nat.{ℕ, _+_, _-_, _*_, _/_, _<_, _≤_}
-use native.Mathlib.Omega.{arith}
-use mathlib.Core.Path.{_≡_, refl, ap, _∙_}
-use mathlib.Core.List.{List, [], _∷_}
-use lib.ListN.{length, length-append}
+use Prim.Native.Nat.{ℕ}
+use mathlib.Core.Path.{refl}
+use mathlib.Core.List.{List}
 use lib.Dec.{eqb}
-use Rattle.format.specs.declared.Fault.{Fault}
-use Rattle.format.specs.declared.Fault.the-variants.{Cut, Form, Field}
-use Rattle.format.specs.declared.Read.{Read}
-use Rattle.format.specs.declared.Read.the-variants.{Got, No}
+use Rattle.format.specs.declared.Fault.the-variants.{Form, Field}
 use Rattle.format.specs.Format.{Format, pick}
-use Rattle.format.specs.ReadWrite.{pairWrite, spelt, eachWrite}
-use Rattle.format.specs.Laws.ReadWrite.{length-spelt}
-use Rattle.format.specs.Combinators.{pair, via, judged, seq, atStart, nothing, _then_, number, fixed, each, counted, listed}
-use Rattle.format.specs.Seen.{seen, itself, none, told-is, via-is, pair-stop, pair-go, pick-yes, yes-eq, start-got, start-no}
-use Rattle.format.specs.Rows.{listed-is, number-row, row-no}
+use Rattle.format.specs.Combinators.{pair, via, atStart, nothing, _then_, number, fixed, listed}
 
 -- "a length byte": FF "means that a 2-byte length follows"; "254 units or fewer use the short form and 255 the long one"
 unfoldable pub extended : ℕ → Format (Unit {0})
@@ -30,50 +21,3 @@ string = atStart (listed stringLength (number 2))
 -- "4 zero bytes and a String"
 unfoldable pub word : Format (List ℕ)
 word = fixed 4 0 Field then string
-
--- ---- as the code reads it
-
-abbrev pub refusedAt : ℕ → Read → Read
-refusedAt at (Got v n) = Got v n
-refusedAt at (No c p) = No c at
-
--- the long form, whose length is told by its first byte
-pub length-long : (s : List ℕ) (at : ℕ) {b w : Read} {n p v q : ℕ} → b ≡ seen itself (number 1) s at → b ≡ Got n p → n ≡ 255 → w ≡ seen none (fixed 2 255 Form) s p → w ≡ Got v q
-    → Got n q ≡ seen itself stringLength s at
-unfolding stringLength extended
-length-long s at {n = n} {p = p} e h k f g =
-    via-is itself (pair (number 1) extended) (λ p. p .0) _ _ s at
-    (pair-go (λ p. p .0) (number 1) extended s at e h (pick-yes (λ u. n) s p (eqb n 255) (fixed 2 255 Form) nothing (yes-eq k) (told-is none (fixed 2 255 Form) s p (λ u. n) f g refl (λ x. refl))))
-
-module _ (s : List ℕ) (at : ℕ) {l : Read} where
-  pub string-stop : {x : Read} {c : Fault} {p : ℕ} → l ≡ seen itself stringLength s at → l ≡ No c p → x ≡ refusedAt at l → x ≡ seen length string s at
-  unfolding string
-  string-stop {c = c} {p = p} e h o =
-      o ∙ ap (refusedAt at) h ∙ start-no length _ s at {r = l} {p = p} (listed-is length stringLength (number 2) s at (pair-stop _ stringLength _ s at itself e h)) h
-
-  -- its units, where there is room for them, and where there is none
-  units : {n p : ℕ} (x : Read) → l ≡ seen itself stringLength s at → l ≡ Got n p → x ≡ seen length (each (λ i. number 2) 0 n) s p → x ≡ seen length (listed stringLength (number 2)) s at
-  units x e h o = listed-is length stringLength (number 2) s at (pair-go _ stringLength _ s at e h o)
-
-  pub string-is : {n p w : ℕ} → l ≡ seen itself stringLength s at → l ≡ Got n p → w ≡ length s - p → n ≤ w / 2 → Got n (p + 2 * n) ≡ seen length string s at
-  unfolding string
-  string-is {n} {p} e h f r = start-got length _ s at {m = p + 2 * n} (units (Got n (p + 2 * n)) e h (number-row 2 s p n (omega arith))) refl
-
-  pub string-cut : {n p w : ℕ} → l ≡ seen itself stringLength s at → l ≡ Got n p → w ≡ length s - p → w / 2 < n → No Cut at ≡ seen length string s at
-  unfolding string
-  string-cut {n} {p} e h f r = let c = row-no 2 s p n (omega arith) in start-no length _ s at {p = c .0} (units (No Cut (c .0)) e h (c .1)) refl
-
--- ---- how many bytes a String is written in: its length's, and two for each unit
-units-length : (i : ℕ) (us : List ℕ) → length (eachWrite (λ j. number 2) i us) ≡ 2 * length us
-unfolding eachWrite number
-units-length i [] = refl
-units-length i (u ∷ us) = omega (arith, length-append (spelt 2 u) (eachWrite (λ j. number 2) (i + 1) us), length-spelt 2 u, units-length (i + 1) us)
-
-pub string-length : (us : List ℕ) → length (string .write us) ≡ length (stringLength .write (length us)) + 2 * length us
-unfolding string atStart listed counted via pair pairWrite each
-string-length us = omega (arith, length-append (stringLength .write (length us)) (eachWrite (λ j. number 2) 0 us), units-length 0 us)
-
--- a word's 4 zero bytes before it
-pub word-length : (us : List ℕ) → length (word .write us) ≡ 4 + length (string .write us)
-unfolding word fixed _then_ seq via judged pair pairWrite number
-word-length us = omega (arith, length-append (spelt 4 0) (string .write us), length-spelt 4 0)

@@ -3,8 +3,9 @@ use format::Fault;
 use format::Read;
 ghost use mathlib.Core.Path.{_≡_};
 ghost use lib.ListN.{length};
-ghost use Rattle.format.specs.Seen.{seen, itself};
-ghost use Rattle.text.specs.Text.{stringLength, string, word, refusedAt};
+ghost use Rattle.format.specs.Laws.Seen.{seen, itself};
+ghost use Rattle.text.specs.Text.{stringLength, string, word};
+ghost use Rattle.text.specs.Laws.Text.{refusedAt};
 
 // The number of units of a String.
 pub fn length_at(s: &[u8], at: usize) -> Read

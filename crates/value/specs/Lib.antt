@@ -1,3 +1,2 @@
 pub mod Value
-pub mod Held
-pub mod Places
+pub mod Laws

@@ -9,7 +9,7 @@ ghost use lib.ListN.{length};
 ghost use Rattle.element.specs.Data.{wordData, sizeData, dateData, dataOf, wordsOf, sizesOf, spanOf};
 ghost use Rattle.value.specs.declared.Value.the-variants.{Size, Dates, Words};
 ghost use Rattle.value.specs.Value.{floats, valueIn, fromKind, valueOf, valueSays, valueAnswer};
-ghost use Rattle.value.specs.Places.{Holds, givenBy, offBy};
+ghost use Rattle.value.specs.Laws.Places.{Holds, givenBy, offBy};
 
 // A date span: whether the after date counts and whether the before date does, and the two dates.
 pub struct Span {

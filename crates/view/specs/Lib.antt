@@ -2,3 +2,4 @@ pub mod Asked
 pub mod View
 pub mod Fixed
 pub mod Word
+pub mod Laws

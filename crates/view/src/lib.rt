@@ -11,16 +11,19 @@ use rule::Fields;
 ghost use mathlib.Core.Path.{_≡_};
 ghost use lib.ListN.{length};
 ghost use denote.Ref.{ptr};
-ghost use Rattle.format.specs.Skip.{Skipped};
-ghost use Rattle.format.specs.Back.{Where};
+ghost use Rattle.format.specs.Laws.Skip.{Skipped};
+ghost use Rattle.format.specs.Laws.Back.{Where};
 ghost use Rattle.text.specs.Text.{word};
 ghost use Rattle.element.specs.Data.{wordData, dataOf};
 ghost use Rattle.rule.specs.Rule.{rule};
-ghost use Rattle.walk.specs.Elements.{Carries};
-ghost use Rattle.view.specs.Asked.{Finds, Tells};
-ghost use Rattle.view.specs.Fixed.{Kept, fixedAt, fixedFields, fieldsSay, fieldsAnswer, noFields};
-ghost use Rattle.view.specs.Word.{Words, dataWord, ruleWord, wordView};
-ghost use Rattle.view.specs.View.{Units, Inside, nameAt, nameView, PartOf, viewSays, noView};
+ghost use Rattle.walk.specs.Laws.Elements.{Carries};
+ghost use Rattle.view.specs.Laws.Asked.{Finds, Tells};
+ghost use Rattle.view.specs.Laws.Fixed.{Kept, noFields};
+ghost use Rattle.view.specs.Fixed.{fixedAt, fixedFields, fieldsSay, fieldsAnswer};
+ghost use Rattle.view.specs.Laws.Word.{Words};
+ghost use Rattle.view.specs.Word.{dataWord, ruleWord, wordView};
+ghost use Rattle.view.specs.Laws.View.{Units, Inside, noView};
+ghost use Rattle.view.specs.View.{nameAt, nameView, PartOf, viewSays};
 
 // What a view answers: its first byte and how many bytes it is; or a fault with its place.
 pub enum View {

@@ -2,9 +2,9 @@
 use format::Fault;
 use format::Read;
 use kind::Product;
-ghost use Rattle.format.specs.Skip.{Skipped};
+ghost use Rattle.format.specs.Laws.Skip.{Skipped};
 ghost use Rattle.rule.specs.Rule.{placed};
-ghost use Rattle.walk.specs.Elements.{Counts, Elements, Identifies};
+ghost use Rattle.walk.specs.Laws.Elements.{Counts, Elements, Identifies};
 
 // The number of elements of rule i, and where they start behind its head.
 fn counted_at(s: &[u8], at: usize, i: u64) -> Read

@@ -6,7 +6,7 @@ ghost use Prim.Native.Nat.{_+_, _-_, _*_, _<_, _≤_, _^_};
 ghost use lib.ListN.{length, take, drop};
 ghost use Rattle.format.specs.ReadWrite.{value};
 ghost use Rattle.format.specs.Combinators.{number, fixed};
-ghost use Rattle.format.specs.Seen.{seen, itself, none};
+ghost use Rattle.format.specs.Laws.Seen.{seen, itself, none};
 
 // The bytes at a place that has them, the lowest first.
 fn one(s: &[u8], at: usize) -> u64

@@ -11,16 +11,17 @@ ghost use Prim.Native.Nat.{_≤_, _<_};
 ghost use mathlib.Core.Path.{_≡_};
 ghost use mathlib.Core.Bool.{true};
 ghost use lib.ListN.{length};
-ghost use Rattle.format.specs.Back.{Where};
+ghost use Rattle.format.specs.Laws.Back.{Where};
 ghost use Rattle.element.specs.Data.{wordData, dataOf};
 ghost use Rattle.rule.specs.Rule.{rule};
-ghost use Rattle.locate.specs.Located.{lastOf};
-ghost use Rattle.walk.specs.Elements.{Carries};
+ghost use Rattle.locate.specs.Laws.Located.{lastOf};
+ghost use Rattle.walk.specs.Laws.Elements.{Carries};
 ghost use Rattle.plan.specs.Given.{isText};
 ghost use Rattle.plan.specs.Edit.{addWord};
-ghost use Rattle.plan.specs.Found.{Edits, MakesAs};
-ghost use Rattle.word.specs.List.{listOf, lastList};
-ghost use Rattle.word.specs.Word.{Lengthens};
+ghost use Rattle.plan.specs.Edit.{Edits};
+ghost use Rattle.plan.specs.Laws.Found.{MakesAs};
+ghost use Rattle.word.specs.Laws.List.{listOf, lastList};
+ghost use Rattle.word.specs.Laws.Word.{Lengthens};
 
 // The number of words of the data of a list, and where it stands: at their start.
 fn word_count(s: &[u8], at: usize) -> Read

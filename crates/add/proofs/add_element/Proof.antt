@@ -1,6 +1,6 @@
-use Rattle.plan.specs.Found.{edit-unknown, edit-no, edit-made, found-within}
-use Rattle.locate.specs.Located.{lastOf}
-use Rattle.format.specs.Format.{bytes-all}
+use Rattle.plan.specs.Laws.Found.{edit-unknown, edit-no, edit-made, found-within}
+use Rattle.locate.specs.Laws.Located.{lastOf}
+use Rattle.format.specs.Laws.Format.{bytes-all}
 use native.Mathlib.Omega.{arith}
 use borrow.Author.Needs.{needs}
 use Rattle.add.proofs.add_element.Statement.{statement}

@@ -1,8 +1,8 @@
-use Rattle.locate.specs.Steps.{name-within, name-got}
-use Rattle.format.specs.Format.{bytes-all}
+use Rattle.locate.specs.Laws.Steps.{name-within, name-got}
+use Rattle.format.specs.Laws.Format.{bytes-all}
 use native.Mathlib.Omega.{arith}
-use Rattle.add.specs.Element.{element-none, element-uncounted, element-full, element-given, element-done}
-use Rattle.plan.specs.Last.{last-unnamed}
+use Rattle.add.specs.Laws.Element.{element-none, element-uncounted, element-full, element-given, element-done}
+use Rattle.plan.specs.Laws.Last.{last-unnamed}
 use borrow.Author.Needs.{needs}
 use Rattle.add.proofs.element_in.Statement.{statement}
 use Rattle.add.proofs.element_in.Tie as tie

@@ -1,6 +1,6 @@
-use Rattle.parts.specs.Text.{text-small}
-use Rattle.add.specs.Rule.{extend-rules, extend-large, extend-room, extend-done}
-use Rattle.parts.specs.Text.{text-size}
+use Rattle.parts.specs.Laws.Text.{text-small}
+use Rattle.add.specs.Laws.Rule.{extend-rules, extend-large, extend-room, extend-done}
+use Rattle.parts.specs.Laws.Text.{text-size}
 use native.Mathlib.Omega.{arith}
 use borrow.Author.Needs.{needs}
 use Rattle.add.proofs.extend.Statement.{statement}

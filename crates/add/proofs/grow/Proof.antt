@@ -1,5 +1,5 @@
 use native.Mathlib.Omega.{arith}
-use Rattle.add.specs.Element.{grow-large, grow-room, grow-short, grow-done}
+use Rattle.add.specs.Laws.Element.{grow-large, grow-room, grow-short, grow-done}
 use borrow.Author.Needs.{needs}
 use Rattle.add.proofs.grow.Statement.{statement}
 use Rattle.add.proofs.grow.Tie as tie

@@ -1,4 +1,4 @@
-use Rattle.add.specs.Rule.{back-put}
+use Rattle.add.specs.Laws.Rule.{back-put}
 use borrow.Author.Needs.{needs}
 use Rattle.add.proofs.put_back.Statement.{statement}
 use Rattle.add.proofs.put_back.Tie as tie

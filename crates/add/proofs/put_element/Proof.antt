@@ -1,4 +1,4 @@
-use Rattle.add.specs.Element.{later-put}
+use Rattle.add.specs.Laws.Element.{later-put}
 use borrow.Author.Needs.{needs}
 use Rattle.add.proofs.put_element.Statement.{statement}
 use Rattle.add.proofs.put_element.Tie as tie

@@ -1,5 +1,5 @@
-use Rattle.add.specs.Rule.{front-put}
-use Rattle.parts.specs.Text.{text-size}
+use Rattle.add.specs.Laws.Rule.{front-put}
+use Rattle.parts.specs.Laws.Text.{text-size}
 use native.Mathlib.Omega.{arith}
 use borrow.Author.Needs.{needs}
 use Rattle.add.proofs.put_front.Statement.{statement}

@@ -1,4 +1,4 @@
-use Rattle.add.specs.Rule.{kept-put}
+use Rattle.add.specs.Laws.Rule.{kept-put}
 use borrow.Author.Needs.{needs}
 use Rattle.add.proofs.put_kept.Statement.{statement}
 use Rattle.add.proofs.put_kept.Tie as tie

@@ -1,6 +1,6 @@
 use borrow.Author.Tests.{not-true, not-false}
-use Rattle.add.specs.Rule.{rule-text, rule-given, rule-done}
-use Rattle.format.specs.Format.{bytes-all}
+use Rattle.add.specs.Laws.Rule.{rule-text, rule-given, rule-done}
+use Rattle.format.specs.Laws.Format.{bytes-all}
 use mathlib.Core.Path.{sym, _∙_}
 use borrow.Author.Needs.{needs}
 use Rattle.add.proofs.rule_in.Statement.{statement}

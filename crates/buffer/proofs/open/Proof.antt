@@ -1,5 +1,5 @@
 use native.Mathlib.Omega.{arith}
-use Rattle.buffer.specs.Laid.{opened-out}
+use Rattle.buffer.specs.Laws.Laid.{opened-out}
 use borrow.Author.Needs.{needs}
 use Rattle.buffer.proofs.open.Statement.{statement}
 use Rattle.buffer.proofs.open.Tie as tie

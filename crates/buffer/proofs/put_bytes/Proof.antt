@@ -1,5 +1,5 @@
 use native.Mathlib.Omega.{arith}
-use Rattle.buffer.specs.Laid.{put-out}
+use Rattle.buffer.specs.Laws.Laid.{put-out}
 use Rattle.buffer.proofs.Parts.{put-tail}
 use borrow.Author.Needs.{needs}
 use Rattle.buffer.proofs.put_bytes.Statement.{statement}

@@ -1,6 +1,6 @@
 use native.Mathlib.Omega.{arith}
 use Rattle.format.specs.Laws.ReadWrite.{length-spelt}
-use Rattle.buffer.specs.Laid.{put-out}
+use Rattle.buffer.specs.Laws.Laid.{put-out}
 use Rattle.buffer.proofs.Parts.{put-tail}
 use borrow.Author.Needs.{needs}
 use Rattle.buffer.proofs.put_number.Statement.{statement}

@@ -1,9 +1,9 @@
 use native.Mathlib.Omega.{arith}
-use Rattle.format.specs.Format.{bytes-all}
-use Rattle.locate.specs.Steps.{name-got}
-use Rattle.plan.specs.Found.{edit-no, edit-done}
-use Rattle.plan.specs.Makes.{makes-unnamed}
-use Rattle.change.specs.Rename.{rename-absent, found-named}
+use Rattle.format.specs.Laws.Format.{bytes-all}
+use Rattle.locate.specs.Laws.Steps.{name-got}
+use Rattle.plan.specs.Laws.Found.{edit-no, edit-done}
+use Rattle.plan.specs.Laws.Makes.{makes-unnamed}
+use Rattle.change.specs.Laws.Rename.{rename-absent, found-named}
 use borrow.Author.Needs.{needs}
 use Rattle.change.proofs.rename.Statement.{statement}
 use Rattle.change.proofs.rename.Tie as tie

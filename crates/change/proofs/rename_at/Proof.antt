@@ -1,9 +1,9 @@
 use borrow.Author.Tests.{not-true, not-false}
 use native.Mathlib.Omega.{arith}
 use mathlib.Core.Path.{refl, sym, _∙_}
-use Rattle.format.specs.Format.{bytes-all}
-use Rattle.parts.specs.Text.{text-small}
-use Rattle.change.specs.Rename.{rename-text, rename-large, rename-room, rename-done}
+use Rattle.format.specs.Laws.Format.{bytes-all}
+use Rattle.parts.specs.Laws.Text.{text-small}
+use Rattle.change.specs.Laws.Rename.{rename-text, rename-large, rename-room, rename-done}
 use borrow.Author.Needs.{needs}
 use Rattle.change.proofs.rename_at.Statement.{statement}
 use Rattle.change.proofs.rename_at.Tie as tie

@@ -1,5 +1,5 @@
-use Rattle.format.specs.Format.{bytes-all}
-use Rattle.plan.specs.Found.{edit-no, edit-done}
+use Rattle.format.specs.Laws.Format.{bytes-all}
+use Rattle.plan.specs.Laws.Found.{edit-no, edit-done}
 use borrow.Author.Needs.{needs}
 use Rattle.change.proofs.switch.Statement.{statement}
 use Rattle.change.proofs.switch.Tie as tie

@@ -1,7 +1,7 @@
 use native.Mathlib.Omega.{arith}
-use Rattle.locate.specs.Steps.{name-got}
-use Rattle.plan.specs.Makes.{makes-unnamed}
-use Rattle.change.specs.Switch.{switch-absent, switch-done}
+use Rattle.locate.specs.Laws.Steps.{name-got}
+use Rattle.plan.specs.Laws.Makes.{makes-unnamed}
+use Rattle.change.specs.Laws.Switch.{switch-absent, switch-done}
 use borrow.Author.Needs.{needs}
 use Rattle.change.proofs.switch_at.Statement.{statement}
 use Rattle.change.proofs.switch_at.Tie as tie

@@ -1,7 +1,7 @@
 use Prim.Native.Nat.{_+_}
-use Rattle.civil.specs.Steps.{year-most, years-least}
+use Rattle.civil.specs.Laws.Steps.{year-most, years-least}
 use native.Mathlib.Omega.{arith}
-use Rattle.civil.specs.Unique.{made}
+use Rattle.civil.specs.Laws.Unique.{made}
 use borrow.Author.Needs.{needs}
 use Rattle.civil.proofs.civil_of.Statement.{statement}
 use Rattle.civil.proofs.civil_of.Tie as tie

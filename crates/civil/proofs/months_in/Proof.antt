@@ -3,7 +3,7 @@ use Prim.Native.Nat.{_+_, _-_, _<_}
 use native.Mathlib.Omega.{arith}
 use borrow.Author.Needs.{needs}
 use Rattle.civil.specs.Calendar.{monthsDays}
-use Rattle.civil.specs.Steps.{months, turn, fewer}
+use Rattle.civil.specs.Laws.Steps.{months, turn, fewer}
 use Rattle.civil.proofs.months_in.Statement.{statement}
 use Rattle.civil.proofs.months_in.Tie as tie
 

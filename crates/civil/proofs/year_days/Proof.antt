@@ -1,5 +1,5 @@
 use native.Mathlib.Omega.{arith}
-use Rattle.civil.specs.Steps.{year-is}
+use Rattle.civil.specs.Laws.Steps.{year-is}
 use borrow.Author.Needs.{needs}
 use Rattle.civil.proofs.year_days.Statement.{statement}
 use Rattle.civil.proofs.year_days.Tie as tie

@@ -3,7 +3,7 @@ use Prim.Native.Nat.{_+_}
 use native.Mathlib.Omega.{arith}
 use borrow.Author.Needs.{needs}
 use Rattle.civil.specs.Calendar.{yearsDays}
-use Rattle.civil.specs.Steps.{years, turn, years-least}
+use Rattle.civil.specs.Laws.Steps.{years, turn, years-least}
 use Rattle.civil.proofs.years_in.Statement.{statement}
 use Rattle.civil.proofs.years_in.Tie as tie
 

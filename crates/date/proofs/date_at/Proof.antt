@@ -1,5 +1,5 @@
 use Rattle.date.specs.Date.{date}
-use Rattle.format.specs.Seen.{reading}
+use Rattle.format.specs.Laws.Seen.{reading}
 use borrow.Author.Needs.{needs}
 use Rattle.date.proofs.date_at.Statement.{statement}
 use Rattle.date.proofs.date_at.Tie as tie

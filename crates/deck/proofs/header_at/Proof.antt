@@ -1,5 +1,6 @@
-use Rattle.deck.specs.Deck.{header, mark-is}
-use Rattle.format.specs.Seen.{reading}
+use Rattle.deck.specs.Deck.{header}
+use Rattle.deck.specs.Laws.Deck.{mark-is}
+use Rattle.format.specs.Laws.Seen.{reading}
 use borrow.Author.Needs.{needs}
 use Rattle.deck.proofs.header_at.Statement.{statement}
 use Rattle.deck.proofs.header_at.Tie as tie

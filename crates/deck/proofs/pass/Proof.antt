@@ -1,4 +1,4 @@
-use Rattle.deck.specs.Deck.{scan-by, scan-none}
+use Rattle.deck.specs.Laws.Deck.{scan-by, scan-none}
 use borrow.Author.Needs.{needs}
 use Rattle.deck.proofs.pass.Statement.{statement}
 use Rattle.deck.proofs.pass.Tie as tie

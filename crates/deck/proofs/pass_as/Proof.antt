@@ -1,5 +1,5 @@
-use Rattle.deck.specs.Deck.{scan-long, header-small, scan-header, scan-rules, scan-over, scan-is}
-use Rattle.format.specs.Format.{bytes-all}
+use Rattle.deck.specs.Laws.Deck.{scan-long, header-small, scan-header, scan-rules, scan-over, scan-is}
+use Rattle.format.specs.Laws.Format.{bytes-all}
 use borrow.Author.Needs.{needs}
 use Rattle.deck.proofs.pass_as.Statement.{statement}
 use Rattle.deck.proofs.pass_as.Tie as tie

@@ -2,11 +2,13 @@ use Prim.Native.Nat.{_*_, _-_, _≤_}
 use native.Mathlib.Omega.{arith}
 use mathlib.Core.Path.{_≡_}
 use borrow.Author.Needs.{needs}
-use Rattle.format.specs.Format.{bytes-all}
+use Rattle.format.specs.Laws.Format.{bytes-all}
 use Rattle.format.specs.Combinators.{each}
-use Rattle.format.specs.Seen.{seen}
-use Rattle.format.specs.Rows.{total, added, sum-start, sum-go, sum-stop, sum-done}
-use Rattle.rule.specs.Rule.{rule, elementsIn, rule-small}
+use Rattle.format.specs.Laws.Seen.{seen}
+use Rattle.format.specs.Row.{total}
+use Rattle.format.specs.Laws.Rows.{added, sum-start, sum-go, sum-stop, sum-done}
+use Rattle.rule.specs.Rule.{rule, elementsIn}
+use Rattle.rule.specs.Laws.Rule.{rule-small}
 use Rattle.deck.proofs.rules_at.Statement.{statement}
 use Rattle.deck.proofs.rules_at.Tie as tie
 

@@ -1,4 +1,4 @@
-use Rattle.element.specs.Element.{data-is, simple-is}
+use Rattle.element.specs.Laws.Element.{data-is, simple-is}
 use borrow.Author.Needs.{needs}
 use Rattle.element.proofs.data_at.Statement.{statement}
 use Rattle.element.proofs.data_at.Tie as tie

@@ -1,6 +1,6 @@
-use Rattle.format.specs.Seen.{reading}
+use Rattle.format.specs.Laws.Seen.{reading}
 use Rattle.element.specs.Data.{wordData}
-use Rattle.format.specs.Rows.{listed-is}
+use Rattle.format.specs.Laws.Rows.{listed-is}
 use borrow.Author.Needs.{needs}
 use Rattle.element.proofs.word_list_at.Statement.{statement}
 use Rattle.element.proofs.word_list_at.Tie as tie

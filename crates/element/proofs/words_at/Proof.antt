@@ -2,8 +2,8 @@ use Prim.Native.Nat.{_-_}
 use mathlib.Core.Path.{_≡_}
 use borrow.Author.Needs.{needs}
 use Rattle.format.specs.Combinators.{each}
-use Rattle.format.specs.Seen.{seen, none}
-use Rattle.format.specs.Rows.{running}
+use Rattle.format.specs.Laws.Seen.{seen, none}
+use Rattle.format.specs.Laws.Rows.{running}
 use Rattle.text.specs.Text.{word}
 use Rattle.element.proofs.words_at.Statement.{statement}
 use Rattle.element.proofs.words_at.Tie as tie

@@ -1,5 +1,5 @@
 use Rattle.format.specs.Combinators.{flag}
-use Rattle.format.specs.Seen.{reading}
+use Rattle.format.specs.Laws.Seen.{reading}
 use borrow.Author.Needs.{needs}
 use Rattle.field.proofs.flag_at.Statement.{statement}
 use Rattle.field.proofs.flag_at.Tie as tie

@@ -1,4 +1,4 @@
-use Rattle.format.specs.Seen.{counting}
+use Rattle.format.specs.Laws.Seen.{counting}
 use borrow.Author.Needs.{needs}
 use Rattle.field.proofs.judged_count.Statement.{statement}
 use Rattle.field.proofs.judged_count.Tie as tie

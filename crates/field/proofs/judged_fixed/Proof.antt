@@ -1,4 +1,4 @@
-use Rattle.format.specs.Seen.{fixing}
+use Rattle.format.specs.Laws.Seen.{fixing}
 use borrow.Author.Needs.{needs}
 use Rattle.field.proofs.judged_fixed.Statement.{statement}
 use Rattle.field.proofs.judged_fixed.Tie as tie

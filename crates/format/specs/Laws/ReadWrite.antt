@@ -1,5 +1,5 @@
 -- That what ReadWrite.antt reads and writes keeps a format's laws: back, forth, inside. With them, laws of numbers, rows and fits.
-use Prim.Native.Nat.{ℕ, zero, suc, _+_, _-_, _*_, _/_, _%_, _^_, _≤_, _<_}
+use Prim.Native.Nat.{ℕ, zero, suc, _+_, _*_, _/_, _%_, _^_, _≤_, _<_}
 use native.Mathlib.Omega.{arith}
 use native.Mathlib.Nat.{add-zero, add-assoc, mul-comm, mul-assoc, pow-suc, div-lt-iff-lt-mul}
 use mathlib.Core.Path.{_≡_, refl, sym, ap, _∙_}
@@ -11,7 +11,8 @@ use lib.Dec.{leb, eqb}
 use borrow.Author.Tests.{le-leb, leb-true, eqb-true, eqb-false}
 use Rattle.format.specs.declared.Fault.{Fault}
 use Rattle.format.specs.declared.Fault.the-variants.{Cut}
-use Rattle.format.specs.Format.{Answer, got, refused, shift, mapped, andThen, endOf, pick, Bytes, bytes-drop, bytes-take, bytes-append, Found, Format, apart, went, mapped-got, end-mapped, end-then}
+use Rattle.format.specs.Format.{Answer, got, refused, shift, mapped, andThen, endOf, pick, Bytes, Found, Format}
+use Rattle.format.specs.Laws.Format.{bytes-drop, bytes-take, bytes-append, apart, went, mapped-got, end-mapped, end-then}
 use Rattle.format.specs.ReadWrite.{pairRead, pairWrite, PairFit, judge, judgeOf, JudgedFit, ViaFit, home, value, spelt, numberRead, within, bit, eachRead, eachWrite, AllFit, EachFit, weighed, WeighedFit}
 
 -- two runs of bytes that were found one behind the other, as one

@@ -1,6 +1,6 @@
 use native.Mathlib.Omega.{arith}
-use Rattle.element.specs.Element.{element-past}
-use Rattle.format.specs.Parts.{part-got, part-no, part-ends, part-stops}
+use Rattle.element.specs.Laws.Element.{element-past}
+use Rattle.format.specs.Laws.Parts.{part-got, part-no, part-ends, part-stops}
 use borrow.Author.Needs.{needs}
 use Rattle.identified.proofs.element_at.Statement.{statement}
 use Rattle.identified.proofs.element_at.Tie as tie

@@ -1,5 +1,5 @@
 use mathlib.Core.Path.{refl}
-use Rattle.format.specs.Seen.{told-is, refused-is}
+use Rattle.format.specs.Laws.Seen.{told-is, refused-is}
 use borrow.Author.Needs.{needs}
 use Rattle.identified.proofs.named_data_at.Statement.{statement}
 use Rattle.identified.proofs.named_data_at.Tie as tie

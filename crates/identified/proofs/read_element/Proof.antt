@@ -1,4 +1,4 @@
-use Rattle.element.specs.Element.{element-cut, element-no, element-is}
+use Rattle.element.specs.Laws.Element.{element-cut, element-no, element-is}
 use borrow.Author.Needs.{needs}
 use Rattle.identified.proofs.read_element.Statement.{statement}
 use Rattle.identified.proofs.read_element.Tie as tie

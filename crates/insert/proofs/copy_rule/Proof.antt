@@ -1,4 +1,4 @@
-use Rattle.insert.specs.Insert.{inserts-rules, inserts-large, inserts-room, inserts-done}
+use Rattle.insert.specs.Laws.Insert.{inserts-rules, inserts-large, inserts-room, inserts-done}
 use native.Mathlib.Omega.{arith}
 use borrow.Author.Needs.{needs}
 use Rattle.insert.proofs.copy_rule.Statement.{statement}

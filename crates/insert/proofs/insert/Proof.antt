@@ -1,6 +1,6 @@
-use Rattle.insert.specs.Insert.{found-place}
-use Rattle.plan.specs.Found.{edit-no, edit-done}
-use Rattle.format.specs.Format.{bytes-all}
+use Rattle.insert.specs.Laws.Insert.{found-place}
+use Rattle.plan.specs.Laws.Found.{edit-no, edit-done}
+use Rattle.format.specs.Laws.Format.{bytes-all}
 use borrow.Author.Needs.{needs}
 use Rattle.insert.proofs.insert.Statement.{statement}
 use Rattle.insert.proofs.insert.Tie as tie

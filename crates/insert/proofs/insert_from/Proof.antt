@@ -1,5 +1,5 @@
-use Rattle.insert.specs.Insert.{makes-given, makes-copies, copyable}
-use Rattle.format.specs.Format.{bytes-all}
+use Rattle.insert.specs.Laws.Insert.{makes-given, makes-copies, copyable}
+use Rattle.format.specs.Laws.Format.{bytes-all}
 use borrow.Author.Needs.{needs}
 use Rattle.insert.proofs.insert_from.Statement.{statement}
 use Rattle.insert.proofs.insert_from.Tie as tie

@@ -1,5 +1,5 @@
 use native.Mathlib.Omega.{arith}
-use Rattle.insert.specs.Place.{lost-later, lost-none, lost-first}
+use Rattle.insert.specs.Laws.Place.{lost-later, lost-none, lost-first}
 use Rattle.insert.proofs.lost_at.Statement.{statement}
 use Rattle.insert.proofs.lost_at.Tie as tie
 

@@ -1,6 +1,6 @@
 use native.Mathlib.Omega.{arith}
-use Rattle.insert.specs.Place.{opens-unnamed, opens-not, opens-shift}
-use Rattle.locate.specs.Steps.{name-got}
+use Rattle.insert.specs.Laws.Place.{opens-unnamed, opens-not, opens-shift}
+use Rattle.locate.specs.Laws.Steps.{name-got}
 use borrow.Author.Needs.{needs}
 use Rattle.insert.proofs.open_first.Statement.{statement}
 use Rattle.insert.proofs.open_first.Tie as tie

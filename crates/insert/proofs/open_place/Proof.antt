@@ -1,6 +1,6 @@
-use Rattle.insert.specs.Place.{lost-is}
+use Rattle.insert.specs.Laws.Place.{lost-is}
 use native.Mathlib.Omega.{arith}
-use Rattle.insert.specs.Place.{opens-plain, opens-first}
+use Rattle.insert.specs.Laws.Place.{opens-plain, opens-first}
 use borrow.Author.Needs.{needs}
 use Rattle.insert.proofs.open_place.Statement.{statement}
 use Rattle.insert.proofs.open_place.Tie as tie

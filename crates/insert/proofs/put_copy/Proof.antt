@@ -1,4 +1,4 @@
-use Rattle.insert.specs.Insert.{copied-holds}
+use Rattle.insert.specs.Laws.Insert.{copied-holds}
 use native.Mathlib.Omega.{arith}
 use borrow.Author.Needs.{needs}
 use Rattle.insert.proofs.put_copy.Statement.{statement}

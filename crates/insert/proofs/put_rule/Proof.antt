@@ -1,5 +1,5 @@
 use native.Mathlib.Omega.{arith}
-use Rattle.insert.specs.Copy.{put-copied}
+use Rattle.insert.specs.Laws.Copy.{put-copied}
 use borrow.Author.Needs.{needs}
 use Rattle.insert.proofs.put_rule.Statement.{statement}
 use Rattle.insert.proofs.put_rule.Tie as tie

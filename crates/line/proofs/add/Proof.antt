@@ -1,7 +1,7 @@
 use native.Mathlib.Omega.{arith}
 use mathlib.Core.Path.{refl}
 use borrow.Author.Needs.{needs}
-use Rattle.line.specs.Adds.{adds-put}
+use Rattle.line.specs.Laws.Adds.{adds-put}
 use Rattle.line.proofs.add.Statement.{statement}
 use Rattle.line.proofs.add.Tie as tie
 

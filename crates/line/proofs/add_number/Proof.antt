@@ -1,6 +1,6 @@
 use native.Mathlib.Omega.{arith}
 use borrow.Author.Needs.{needs}
-use Rattle.line.specs.Adds.{adds-number}
+use Rattle.line.specs.Laws.Adds.{adds-number}
 use Rattle.line.proofs.add_number.Statement.{statement}
 use Rattle.line.proofs.add_number.Tie as tie
 

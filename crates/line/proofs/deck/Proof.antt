@@ -1,7 +1,7 @@
 use native.Mathlib.Omega.{arith}
 use borrow.Author.Needs.{needs}
-use Rattle.line.specs.Line.{deck-is}
-use Rattle.line.specs.Adds.{and, adds-as, adds-line}
+use Rattle.line.specs.Laws.Line.{deck-is}
+use Rattle.line.specs.Laws.Adds.{and, adds-as, adds-line}
 use Rattle.line.proofs.deck.Statement.{statement}
 use Rattle.line.proofs.deck.Tie as tie
 

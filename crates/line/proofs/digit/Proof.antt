@@ -1,6 +1,6 @@
 use native.Mathlib.Omega.{arith}
 use borrow.Author.Needs.{needs}
-use Rattle.line.specs.Line.{hex-low, hex-high}
+use Rattle.line.specs.Laws.Line.{hex-low, hex-high}
 use Rattle.line.proofs.digit.Statement.{statement}
 use Rattle.line.proofs.digit.Tie as tie
 

@@ -1,7 +1,7 @@
 use native.Mathlib.Omega.{arith}
 use borrow.Author.Needs.{needs}
-use Rattle.line.specs.Line.{refused-is}
-use Rattle.line.specs.Adds.{and, adds-as, adds-line}
+use Rattle.line.specs.Laws.Line.{refused-is}
+use Rattle.line.specs.Laws.Adds.{and, adds-as, adds-line}
 use Rattle.line.proofs.refused.Statement.{statement}
 use Rattle.line.proofs.refused.Tie as tie
 

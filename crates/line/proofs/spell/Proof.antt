@@ -1,6 +1,6 @@
 use native.Mathlib.Omega.{arith}
 use borrow.Author.Needs.{needs}
-use Rattle.line.specs.Line.{Spelling, spelling-first, spelling-next, spelling-left, spelling-last}
+use Rattle.line.specs.Laws.Line.{Spelling, spelling-first, spelling-next, spelling-left, spelling-last}
 use Rattle.line.proofs.spell.Statement.{statement}
 use Rattle.line.proofs.spell.Tie as tie
 

@@ -1,6 +1,6 @@
 use native.Mathlib.Omega.{arith}
 use borrow.Author.Needs.{needs}
-use Rattle.lister.specs.Listed.{element-listed}
+use Rattle.lister.specs.Laws.Listed.{element-listed}
 use Rattle.lister.proofs.element_line.Statement.{statement}
 use Rattle.lister.proofs.element_line.Tie as tie
 

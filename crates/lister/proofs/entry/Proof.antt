@@ -1,6 +1,6 @@
 use native.Mathlib.Omega.{arith}
 use borrow.Author.Needs.{needs}
-use Rattle.lister.specs.Listed.{entry-none}
+use Rattle.lister.specs.Laws.Listed.{entry-none}
 use Rattle.lister.proofs.entry.Statement.{statement}
 use Rattle.lister.proofs.entry.Tie as tie
 

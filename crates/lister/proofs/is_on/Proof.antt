@@ -1,5 +1,5 @@
 use borrow.Author.Needs.{needs}
-use Rattle.lister.specs.Listed.{on-is, on-none}
+use Rattle.lister.specs.Laws.Listed.{on-is, on-none}
 use Rattle.lister.proofs.is_on.Statement.{statement}
 use Rattle.lister.proofs.is_on.Tie as tie
 

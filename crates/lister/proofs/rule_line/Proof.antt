@@ -1,5 +1,5 @@
 use borrow.Author.Needs.{needs}
-use Rattle.lister.specs.Listed.{rule-listed}
+use Rattle.lister.specs.Laws.Listed.{rule-listed}
 use Rattle.lister.proofs.rule_line.Statement.{statement}
 use Rattle.lister.proofs.rule_line.Tie as tie
 

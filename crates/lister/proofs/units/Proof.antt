@@ -1,5 +1,5 @@
 use borrow.Author.Needs.{needs}
-use Rattle.lister.specs.Listed.{units-are, units-none}
+use Rattle.lister.specs.Laws.Listed.{units-are, units-none}
 use Rattle.lister.proofs.units.Statement.{statement}
 use Rattle.lister.proofs.units.Tie as tie
 

@@ -1,4 +1,4 @@
-use Rattle.locate.specs.Steps.{following}
+use Rattle.locate.specs.Laws.Steps.{following}
 use borrow.Author.Needs.{needs}
 use Rattle.locate.proofs.end_of.Statement.{statement}
 use Rattle.locate.proofs.end_of.Tie as tie

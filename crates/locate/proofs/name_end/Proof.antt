@@ -1,4 +1,4 @@
-use Rattle.locate.specs.Steps.{name-past, name-is}
+use Rattle.locate.specs.Laws.Steps.{name-past, name-is}
 use borrow.Author.Needs.{needs}
 use Rattle.locate.proofs.name_end.Statement.{statement}
 use Rattle.locate.proofs.name_end.Tie as tie

@@ -1,7 +1,7 @@
 use borrow.Author.Needs.{needs}
 use Prim.Native.Nat.{_-_, _≤_}
 use Rattle.format.specs.declared.Read.the-variants.{Got}
-use Rattle.locate.specs.Steps.{Reached, reached-start, reached-go, reached-stop, reached-end}
+use Rattle.locate.specs.Laws.Steps.{Reached, reached-start, reached-go, reached-stop, reached-end}
 use Rattle.locate.proofs.start_of.Statement.{statement}
 use Rattle.locate.proofs.start_of.Tie as tie
 

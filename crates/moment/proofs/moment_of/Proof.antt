@@ -1,5 +1,5 @@
 use mathlib.Core.Path.{sym, _∙_}
-use Rattle.moment.specs.Moment.{says-at, says-no}
+use Rattle.moment.specs.Laws.Moment.{says-at, says-no}
 use borrow.Author.Needs.{needs}
 use Rattle.moment.proofs.moment_of.Statement.{statement}
 use Rattle.moment.proofs.moment_of.Tie as tie

@@ -1,5 +1,5 @@
 use native.Mathlib.Omega.{arith}
-use Rattle.parts.specs.Head.{head-none, head-some}
+use Rattle.parts.specs.Laws.Head.{head-none, head-some}
 use Rattle.parts.proofs.head_size.Statement.{statement}
 use Rattle.parts.proofs.head_size.Tie as tie
 

@@ -1,5 +1,5 @@
 use native.Mathlib.Omega.{arith}
-use Rattle.parts.specs.Text.{behind-out, behind-is}
+use Rattle.parts.specs.Laws.Text.{behind-out, behind-is}
 use borrow.Author.Needs.{needs}
 use Rattle.parts.proofs.put_behind.Statement.{statement}
 use Rattle.parts.proofs.put_behind.Tie as tie

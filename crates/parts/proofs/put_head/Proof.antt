@@ -1,4 +1,4 @@
-use Rattle.parts.specs.Head.{put-first, put-other}
+use Rattle.parts.specs.Laws.Head.{put-first, put-other}
 use borrow.Author.Needs.{needs}
 use Rattle.parts.proofs.put_head.Statement.{statement}
 use Rattle.parts.proofs.put_head.Tie as tie

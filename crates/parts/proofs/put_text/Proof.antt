@@ -1,4 +1,4 @@
-use Rattle.parts.specs.Text.{text-long, text-short}
+use Rattle.parts.specs.Laws.Text.{text-long, text-short}
 use borrow.Author.Needs.{needs}
 use Rattle.parts.proofs.put_text.Statement.{statement}
 use Rattle.parts.proofs.put_text.Tie as tie

@@ -1,4 +1,4 @@
-use Rattle.parts.specs.Text.{size-none, size-long, size-short}
+use Rattle.parts.specs.Laws.Text.{size-none, size-long, size-short}
 use borrow.Author.Needs.{needs}
 use Rattle.parts.proofs.text_size.Statement.{statement}
 use Rattle.parts.proofs.text_size.Tie as tie

@@ -1,4 +1,4 @@
-use Rattle.plan.specs.Given.{given-none, given-stop, given-over, given-is}
+use Rattle.plan.specs.Laws.Given.{given-none, given-stop, given-over, given-is}
 use borrow.Author.Needs.{needs}
 use Rattle.plan.proofs.given_element.Statement.{statement}
 use Rattle.plan.proofs.given_element.Tie as tie

@@ -1,5 +1,5 @@
 use borrow.Author.Needs.{needs}
-use Rattle.plan.specs.Given.{text-odd, text-even}
+use Rattle.plan.specs.Laws.Given.{text-odd, text-even}
 use Rattle.plan.proofs.is_text.Statement.{statement}
 use Rattle.plan.proofs.is_text.Tie as tie
 

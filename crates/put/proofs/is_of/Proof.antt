@@ -2,7 +2,7 @@ use mathlib.Core.Path.{ap}
 use Prim.Native.Nat.{ℕ}
 use lib.Dec.{eqb}
 use Rattle.put.specs.Plan.{isOf}
-use Rattle.put.specs.Put.{of-by, of-simple, of-other}
+use Rattle.put.specs.Laws.Put.{of-by, of-simple, of-other}
 use borrow.Author.Needs.{needs}
 use Rattle.put.proofs.is_of.Statement.{statement}
 use Rattle.put.proofs.is_of.Tie as tie

@@ -1,5 +1,5 @@
 use Rattle.format.specs.Format.{pick}
-use Rattle.put.specs.Put.{formatBy, shapeOf, not-put, of-none, of-put}
+use Rattle.put.specs.Laws.Put.{formatBy, shapeOf, not-put, of-none, of-put}
 use borrow.Author.Needs.{needs}
 use Rattle.put.proofs.put_as.Statement.{statement}
 use Rattle.put.proofs.put_as.Tie as tie

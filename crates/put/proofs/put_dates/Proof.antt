@@ -1,5 +1,5 @@
 use mathlib.Core.Path.{sym, _∙_}
-use Rattle.put.specs.Put.{after-off, before-off, span-put-by}
+use Rattle.put.specs.Laws.Put.{after-off, before-off, span-put-by}
 use borrow.Author.Needs.{needs}
 use Rattle.put.proofs.put_dates.Statement.{statement}
 use Rattle.put.proofs.put_dates.Tie as tie

@@ -1,6 +1,6 @@
 use native.Mathlib.Omega.{arith}
 use Rattle.date.proofs.Floats.{float-no-nan}
-use Rattle.put.specs.Put.{limit-put}
+use Rattle.put.specs.Laws.Put.{limit-put}
 use borrow.Author.Needs.{needs}
 use Rattle.put.proofs.put_limit.Statement.{statement}
 use Rattle.put.proofs.put_limit.Tie as tie

@@ -1,4 +1,4 @@
-use Rattle.put.specs.Put.{no-room, all-put, marker-put, marker-long}
+use Rattle.put.specs.Laws.Put.{no-room, all-put, marker-put, marker-long}
 use borrow.Author.Needs.{needs}
 use Rattle.put.proofs.put_marker.Statement.{statement}
 use Rattle.put.proofs.put_marker.Tie as tie

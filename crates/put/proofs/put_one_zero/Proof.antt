@@ -1,4 +1,4 @@
-use Rattle.put.specs.Put.{one-zero-put}
+use Rattle.put.specs.Laws.Put.{one-zero-put}
 use borrow.Author.Needs.{needs}
 use Rattle.put.proofs.put_one_zero.Statement.{statement}
 use Rattle.put.proofs.put_one_zero.Tie as tie

@@ -1,4 +1,4 @@
-use Rattle.put.specs.Put.{no-room, all-put, simple-put, simple-long}
+use Rattle.put.specs.Laws.Put.{no-room, all-put, simple-put, simple-long}
 use borrow.Author.Needs.{needs}
 use Rattle.put.proofs.put_simple.Statement.{statement}
 use Rattle.put.proofs.put_simple.Tie as tie

@@ -1,4 +1,4 @@
-use Rattle.put.specs.Put.{no-room, all-put, sizes-put, sizes-long}
+use Rattle.put.specs.Laws.Put.{no-room, all-put, sizes-put, sizes-long}
 use borrow.Author.Needs.{needs}
 use Rattle.put.proofs.put_sizes.Statement.{statement}
 use Rattle.put.proofs.put_sizes.Tie as tie

@@ -1,5 +1,5 @@
 use native.Mathlib.Omega.{arith}
-use Rattle.put.specs.Put.{no-room, all-put, span-put, span-long}
+use Rattle.put.specs.Laws.Put.{no-room, all-put, span-put, span-long}
 use borrow.Author.Needs.{needs}
 use Rattle.put.proofs.put_span.Statement.{statement}
 use Rattle.put.proofs.put_span.Tie as tie

@@ -1,6 +1,6 @@
 use mathlib.Core.Path.{refl}
 use Rattle.put.specs.Plan.{shape}
-use Rattle.put.specs.Put.{shape-by}
+use Rattle.put.specs.Laws.Put.{shape-by}
 use borrow.Author.Needs.{needs}
 use Rattle.put.proofs.shape_of.Statement.{statement}
 use Rattle.put.proofs.shape_of.Tie as tie

@@ -1,5 +1,5 @@
 use mathlib.Core.Path.{refl}
-use Rattle.remove.specs.Remove.{led-is}
+use Rattle.remove.specs.Laws.Remove.{led-is}
 use borrow.Author.Needs.{needs}
 use Rattle.remove.proofs.lead.Statement.{statement}
 use Rattle.remove.proofs.lead.Tie as tie

@@ -1,8 +1,8 @@
 use native.Mathlib.Omega.{arith}
-use Rattle.format.specs.Format.{bytes-all}
-use Rattle.plan.specs.Found.{edit-no, edit-done, found-within}
-use Rattle.remove.specs.Remove.{remove-absent, remove-unnamed, found-next}
-use Rattle.locate.specs.Steps.{name-got}
+use Rattle.format.specs.Laws.Format.{bytes-all}
+use Rattle.plan.specs.Laws.Found.{edit-no, edit-done, found-within}
+use Rattle.remove.specs.Laws.Remove.{remove-absent, remove-unnamed, found-next}
+use Rattle.locate.specs.Laws.Steps.{name-got}
 use borrow.Author.Needs.{needs}
 use Rattle.remove.proofs.remove.Statement.{statement}
 use Rattle.remove.proofs.remove.Tie as tie

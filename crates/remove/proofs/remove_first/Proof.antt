@@ -1,6 +1,6 @@
 use native.Mathlib.Omega.{arith}
-use Rattle.format.specs.Format.{bytes-all}
-use Rattle.remove.specs.Remove.{remove-unread, remove-first, size-bound}
+use Rattle.format.specs.Laws.Format.{bytes-all}
+use Rattle.remove.specs.Laws.Remove.{remove-unread, remove-first, size-bound}
 use borrow.Author.Needs.{needs}
 use Rattle.remove.proofs.remove_first.Statement.{statement}
 use Rattle.remove.proofs.remove_first.Tie as tie

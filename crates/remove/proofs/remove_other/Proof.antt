@@ -1,4 +1,4 @@
-use Rattle.remove.specs.Remove.{remove-other}
+use Rattle.remove.specs.Laws.Remove.{remove-other}
 use borrow.Author.Needs.{needs}
 use Rattle.remove.proofs.remove_other.Statement.{statement}
 use Rattle.remove.proofs.remove_other.Tie as tie

@@ -1,4 +1,4 @@
-use Rattle.row.specs.Lines.{digit-is}
+use Rattle.row.specs.Laws.Lines.{digit-is}
 use borrow.Author.Needs.{needs}
 use Rattle.row.proofs.digit_of.Statement.{statement}
 use Rattle.row.proofs.digit_of.Tie as tie

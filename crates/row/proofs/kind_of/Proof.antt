@@ -1,4 +1,4 @@
-use Rattle.kind.specs.Kinds.{kind-in, kind-none}
+use Rattle.kind.specs.Laws.Kinds.{kind-in, kind-none}
 use borrow.Author.Needs.{needs}
 use Rattle.row.proofs.kind_of.Statement.{statement}
 use Rattle.row.proofs.kind_of.Tie as tie

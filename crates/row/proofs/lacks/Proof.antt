@@ -1,4 +1,4 @@
-use Rattle.row.specs.Lines.{lacksAt}
+use Rattle.row.specs.Laws.Lines.{lacksAt}
 use borrow.Author.Needs.{needs}
 use Rattle.row.proofs.lacks.Statement.{statement}
 use Rattle.row.proofs.lacks.Tie as tie

@@ -1,7 +1,7 @@
 use Rattle.kind.specs.Kinds.{rowIn, has}
 use Rattle.format.specs.Format.{pick}
 use borrow.Author.Needs.{needs}
-use Rattle.row.specs.Lines.{lineOf, digitsFrom, digitOf, Off, AllOff, off-line}
+use Rattle.row.specs.Laws.Lines.{lineOf, digitsFrom, digitOf, Off, AllOff, off-line}
 use Rattle.row.proofs.line_of.Statement.{statement}
 use Rattle.row.proofs.line_of.Tie as tie
 

@@ -1,4 +1,4 @@
-use Rattle.row.specs.Lines.{rowAt}
+use Rattle.row.specs.Laws.Lines.{rowAt}
 use Rattle.format.specs.Format.{pick}
 use borrow.Author.Tests.{ne-eqb}
 use Rattle.row.proofs.row_at.Statement.{statement}

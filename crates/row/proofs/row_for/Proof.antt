@@ -1,4 +1,4 @@
-use Rattle.row.specs.Lines.{row-foreign, row-has}
+use Rattle.row.specs.Laws.Lines.{row-foreign, row-has}
 use borrow.Author.Needs.{needs}
 use Rattle.row.proofs.row_for.Statement.{statement}
 use Rattle.row.proofs.row_for.Tie as tie

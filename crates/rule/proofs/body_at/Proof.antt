@@ -1,8 +1,8 @@
 use lib.ListN.{length}
-use Rattle.format.specs.Seen.{none}
+use Rattle.format.specs.Laws.Seen.{none}
 use Rattle.rule.specs.Rule.{body}
-use Rattle.format.specs.Seen.{reading, refused-is}
-use Rattle.format.specs.Rows.{counted-is, row-long}
+use Rattle.format.specs.Laws.Seen.{reading, refused-is}
+use Rattle.format.specs.Laws.Rows.{counted-is, row-long}
 use borrow.Author.Needs.{needs}
 use Rattle.rule.proofs.body_at.Statement.{statement}
 use Rattle.rule.proofs.body_at.Tie as tie

@@ -1,5 +1,6 @@
-use Rattle.format.specs.Seen.{reading}
-use Rattle.rule.specs.Rule.{classHead, class-is}
+use Rattle.format.specs.Laws.Seen.{reading}
+use Rattle.rule.specs.Rule.{classHead}
+use Rattle.rule.specs.Laws.Rule.{class-is}
 use borrow.Author.Needs.{needs}
 use Rattle.rule.proofs.class_at.Statement.{statement}
 use Rattle.rule.proofs.class_at.Tie as tie

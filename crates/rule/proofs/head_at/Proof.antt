@@ -1,4 +1,4 @@
-use Rattle.format.specs.Seen.{reading}
+use Rattle.format.specs.Laws.Seen.{reading}
 use Rattle.rule.specs.Rule.{head, firstHead}
 use borrow.Author.Needs.{needs}
 use Rattle.rule.proofs.head_at.Statement.{statement}

@@ -1,4 +1,4 @@
-use Rattle.rule.specs.Rule.{lead-first, lead-later}
+use Rattle.rule.specs.Laws.Rule.{lead-first, lead-later}
 use borrow.Author.Needs.{needs}
 use Rattle.rule.proofs.lead_at.Statement.{statement}
 use Rattle.rule.proofs.lead_at.Tie as tie

@@ -1,4 +1,4 @@
-use Rattle.rule.specs.Rule.{lead-stop, lead-go}
+use Rattle.rule.specs.Laws.Rule.{lead-stop, lead-go}
 use borrow.Author.Needs.{needs}
 use Rattle.rule.proofs.placed_at.Statement.{statement}
 use Rattle.rule.proofs.placed_at.Tie as tie

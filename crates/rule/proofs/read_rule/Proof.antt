@@ -1,6 +1,6 @@
 use Rattle.format.specs.Combinators.{seq}
 use Rattle.rule.specs.Rule.{rule, fields}
-use Rattle.format.specs.Seen.{reading, pair-on}
+use Rattle.format.specs.Laws.Seen.{reading, pair-on}
 use borrow.Author.Needs.{needs}
 use Rattle.rule.proofs.read_rule.Statement.{statement}
 use Rattle.rule.proofs.read_rule.Tie as tie

@@ -1,6 +1,6 @@
 use native.Mathlib.Omega.{arith}
-use Rattle.rule.specs.Rule.{rule-past}
-use Rattle.format.specs.Parts.{part-got, part-no, part-ends, part-stops}
+use Rattle.rule.specs.Laws.Rule.{rule-past}
+use Rattle.format.specs.Laws.Parts.{part-got, part-no, part-ends, part-stops}
 use borrow.Author.Needs.{needs}
 use Rattle.rule.proofs.rule_at.Statement.{statement}
 use Rattle.rule.proofs.rule_at.Tie as tie

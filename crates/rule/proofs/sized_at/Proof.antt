@@ -1,4 +1,4 @@
-use Rattle.format.specs.Sizes.{sizing}
+use Rattle.format.specs.Laws.Sizes.{sizing}
 use borrow.Author.Needs.{needs}
 use Rattle.rule.proofs.sized_at.Statement.{statement}
 use Rattle.rule.proofs.sized_at.Tie as tie

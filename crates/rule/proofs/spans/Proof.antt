@@ -1,4 +1,4 @@
-use Rattle.format.specs.Sizes.{spans-not, spans-is}
+use Rattle.format.specs.Laws.Sizes.{spans-not, spans-is}
 use Rattle.rule.proofs.spans.Statement.{statement}
 use Rattle.rule.proofs.spans.Tie as tie
 

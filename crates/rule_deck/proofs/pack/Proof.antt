@@ -1,6 +1,7 @@
 use native.Mathlib.Omega.{arith}
 use mathlib.Core.Path.{ap}
-use Rattle.format.specs.Fault.{placeOf, packed, number-small}
+use Rattle.format.specs.Fault.{placeOf, packed}
+use Rattle.format.specs.Laws.Fault.{number-small}
 use borrow.Author.Needs.{needs}
 use Rattle.rule_deck.proofs.pack.Statement.{statement}
 use Rattle.rule_deck.proofs.pack.Tie as tie

@@ -1,8 +1,8 @@
 use native.Mathlib.Omega.{arith}
 use mathlib.Core.Path.{ap, _∙_}
 use Rattle.format.specs.Fault.{placeOf, packed}
-use Rattle.format.specs.Format.{bytes-all}
-use Rattle.deck.specs.Deck.{place-small}
+use Rattle.format.specs.Laws.Format.{bytes-all}
+use Rattle.deck.specs.Laws.Deck.{place-small}
 use borrow.Author.Needs.{needs}
 use Rattle.rule_deck.proofs.rule_deck_check.Statement.{statement}
 use Rattle.rule_deck.proofs.rule_deck_check.Tie as tie

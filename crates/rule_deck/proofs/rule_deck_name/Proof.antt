@@ -1,6 +1,6 @@
-use Rattle.format.specs.Format.{bytes-all}
-use Rattle.bounds.specs.Places.{name-small}
-use Rattle.rule_deck.specs.Sent.{inside-as, view-fits, view-sent}
+use Rattle.format.specs.Laws.Format.{bytes-all}
+use Rattle.bounds.specs.Laws.Places.{name-small}
+use Rattle.rule_deck.specs.Laws.Sent.{inside-as, view-fits, view-sent}
 use borrow.Author.Needs.{needs}
 use Rattle.rule_deck.proofs.rule_deck_name.Statement.{statement}
 use Rattle.rule_deck.proofs.rule_deck_name.Tie as tie

@@ -2,8 +2,8 @@ use native.Mathlib.Omega.{arith}
 use mathlib.Core.Path.{ap, _∙_}
 use lib.ListN.{length}
 use Rattle.format.specs.Fault.{placeOf, packed}
-use Rattle.format.specs.Format.{bytes-all}
-use Rattle.bounds.specs.Places.{tables-small}
+use Rattle.format.specs.Laws.Format.{bytes-all}
+use Rattle.bounds.specs.Laws.Places.{tables-small}
 use borrow.Author.Needs.{needs}
 use Rattle.rule_deck.proofs.rule_deck_read.Statement.{statement}
 use Rattle.rule_deck.proofs.rule_deck_read.Tie as tie

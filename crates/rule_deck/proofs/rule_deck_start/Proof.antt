@@ -1,7 +1,7 @@
 use native.Mathlib.Omega.{arith}
 use mathlib.Core.Path.{ap, _∙_}
 use Rattle.format.specs.Fault.{placeOf, packed}
-use Rattle.rule_deck.specs.Sent.{start-small}
+use Rattle.rule_deck.specs.Laws.Sent.{start-small}
 use lib.ListN.{length}
 use borrow.Author.Needs.{needs}
 use Rattle.rule_deck.proofs.rule_deck_start.Statement.{statement}

@@ -1,5 +1,5 @@
 use native.Mathlib.Omega.{arith}
-use Rattle.start.specs.Start.{start-none, start-is}
+use Rattle.start.specs.Laws.Start.{start-none, start-is}
 use borrow.Author.Needs.{needs}
 use Rattle.start.proofs.start.Statement.{statement}
 use Rattle.start.proofs.start.Tie as tie

@@ -1,5 +1,5 @@
 use native.Mathlib.Omega.{arith}
-use Rattle.rule.specs.Places.{data-first, data-later}
+use Rattle.rule.specs.Laws.Places.{data-first, data-later}
 use borrow.Author.Needs.{needs}
 use Rattle.tables.proofs.data_start.Statement.{statement}
 use Rattle.tables.proofs.data_start.Tie as tie

@@ -1,9 +1,9 @@
 use native.Mathlib.Omega.{arith}
-use Rattle.format.specs.Format.{bytes-all}
-use Rattle.format.specs.Seen.{itself, none}
-use Rattle.format.specs.Back.{seen-ends, seen-stops}
-use Rattle.tables.specs.Fill.{under-no, under-up, two-small}
-use Rattle.tables.specs.Parts.{body-cut, body-off, body-go}
+use Rattle.format.specs.Laws.Format.{bytes-all}
+use Rattle.format.specs.Laws.Seen.{itself, none}
+use Rattle.format.specs.Laws.Back.{seen-ends, seen-stops}
+use Rattle.tables.specs.Laws.Fill.{under-no, under-up, two-small}
+use Rattle.tables.specs.Laws.Parts.{body-cut, body-off, body-go}
 use borrow.Author.Needs.{needs}
 use Rattle.tables.proofs.fill_body.Statement.{statement}
 use Rattle.tables.proofs.fill_body.Tie as tie

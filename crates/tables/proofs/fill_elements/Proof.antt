@@ -2,10 +2,10 @@ use Prim.Native.Nat.{_+_, _-_, _≤_}
 use native.Mathlib.Omega.{arith}
 use mathlib.Core.Path.{_≡_, _∙_}
 use lib.ListN.{length}
-use Rattle.format.specs.Format.{bytes-all}
-use Rattle.format.specs.Back.{seen-ends, seen-stops}
-use Rattle.element.specs.Element.{named}
-use Rattle.tables.specs.Fill.{ElementsTurn, elements-start, elements-done, elements-stop, elements-fill, under-no, under-is, identifier-small}
+use Rattle.format.specs.Laws.Format.{bytes-all}
+use Rattle.format.specs.Laws.Back.{seen-ends, seen-stops}
+use Rattle.element.specs.Laws.Element.{named}
+use Rattle.tables.specs.Laws.Fill.{ElementsTurn, elements-start, elements-done, elements-stop, elements-fill, under-no, under-is, identifier-small}
 use borrow.Author.Needs.{needs}
 use Rattle.tables.proofs.fill_elements.Statement.{statement}
 use Rattle.tables.proofs.fill_elements.Tie as tie

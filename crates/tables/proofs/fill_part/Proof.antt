@@ -1,9 +1,9 @@
 use native.Mathlib.Omega.{arith}
 use lib.ListN.{length}
-use Rattle.format.specs.Seen.{itself}
-use Rattle.format.specs.Back.{seen-ends, seen-stops}
-use Rattle.tables.specs.Fill.{under-no, under-off, under-is, under-got}
-use Rattle.tables.specs.Parts.{rule-lengthless, rule-nameless, rule-bare, rule-go}
+use Rattle.format.specs.Laws.Seen.{itself}
+use Rattle.format.specs.Laws.Back.{seen-ends, seen-stops}
+use Rattle.tables.specs.Laws.Fill.{under-no, under-off, under-is, under-got}
+use Rattle.tables.specs.Laws.Parts.{rule-lengthless, rule-nameless, rule-bare, rule-go}
 use borrow.Author.Needs.{needs}
 use Rattle.tables.proofs.fill_part.Statement.{statement}
 use Rattle.tables.proofs.fill_part.Tie as tie

@@ -1,7 +1,7 @@
 use native.Mathlib.Omega.{arith}
 use mathlib.Core.Path.{refl}
-use Rattle.tables.specs.Fill.{under-no, under-off, under-is, under-got}
-use Rattle.tables.specs.Parts.{rule-past, rule-off, rule-in}
+use Rattle.tables.specs.Laws.Fill.{under-no, under-off, under-is, under-got}
+use Rattle.tables.specs.Laws.Parts.{rule-past, rule-off, rule-in}
 use borrow.Author.Needs.{needs}
 use Rattle.tables.proofs.fill_rule.Statement.{statement}
 use Rattle.tables.proofs.fill_rule.Tie as tie

@@ -2,8 +2,8 @@ use Prim.Native.Nat.{_+_, _-_, _*_, _^_, _≤_}
 use native.Mathlib.Omega.{arith}
 use mathlib.Core.Path.{_≡_, _∙_}
 use lib.ListN.{length}
-use Rattle.tables.specs.Fill.{under-got}
-use Rattle.tables.specs.Parts.{RulesTurn, rules-start, rules-done, rules-stop, rules-go}
+use Rattle.tables.specs.Laws.Fill.{under-got}
+use Rattle.tables.specs.Laws.Parts.{RulesTurn, rules-start, rules-done, rules-stop, rules-go}
 use borrow.Author.Needs.{needs}
 use Rattle.tables.proofs.fill_rules.Statement.{statement}
 use Rattle.tables.proofs.fill_rules.Tie as tie

@@ -1,6 +1,6 @@
 use native.Mathlib.Omega.{arith}
 use lib.ListN.{length-set}
-use Rattle.tables.specs.Fill.{put-four}
+use Rattle.tables.specs.Laws.Fill.{put-four}
 use borrow.Author.Needs.{needs}
 use Rattle.tables.proofs.put4.Statement.{statement}
 use Rattle.tables.proofs.put4.Tie as tie

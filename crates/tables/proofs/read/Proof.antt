@@ -1,7 +1,7 @@
 use native.Mathlib.Omega.{arith}
 use mathlib.Core.Logic.{inl, inr}
-use Rattle.format.specs.Format.{bytes-all}
-use Rattle.tables.specs.Whole.{read-none, read-refused, read-small, read-full, read-unlike, read-done}
+use Rattle.format.specs.Laws.Format.{bytes-all}
+use Rattle.tables.specs.Laws.Whole.{read-none, read-refused, read-small, read-full, read-unlike, read-done}
 use borrow.Author.Needs.{needs}
 use Rattle.tables.proofs.read.Statement.{statement}
 use Rattle.tables.proofs.read.Tie as tie

@@ -1,4 +1,4 @@
-use Rattle.tables.specs.Whole.{room-rules, room-elements, room-both}
+use Rattle.tables.specs.Laws.Whole.{room-rules, room-elements, room-both}
 use Rattle.tables.proofs.room.Statement.{statement}
 use Rattle.tables.proofs.room.Tie as tie
 

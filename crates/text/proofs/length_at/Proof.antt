@@ -1,6 +1,6 @@
-use Rattle.text.specs.Text.{length-long}
+use Rattle.text.specs.Laws.Text.{length-long}
 use Rattle.text.specs.Text.{stringLength, extended}
-use Rattle.format.specs.Seen.{reading, refused-is}
+use Rattle.format.specs.Laws.Seen.{reading, refused-is}
 use borrow.Author.Needs.{needs}
 use Rattle.text.proofs.length_at.Statement.{statement}
 use Rattle.text.proofs.length_at.Tie as tie

@@ -1,4 +1,4 @@
-use Rattle.text.specs.Text.{string-stop, string-is, string-cut}
+use Rattle.text.specs.Laws.Text.{string-stop, string-is, string-cut}
 use borrow.Author.Needs.{needs}
 use Rattle.text.proofs.string_at.Statement.{statement}
 use Rattle.text.proofs.string_at.Tie as tie

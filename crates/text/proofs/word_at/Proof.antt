@@ -1,5 +1,5 @@
 use Rattle.text.specs.Text.{word}
-use Rattle.format.specs.Seen.{reading}
+use Rattle.format.specs.Laws.Seen.{reading}
 use borrow.Author.Needs.{needs}
 use Rattle.text.proofs.word_at.Statement.{statement}
 use Rattle.text.proofs.word_at.Tie as tie

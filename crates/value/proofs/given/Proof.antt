@@ -1,5 +1,5 @@
 use mathlib.Core.Path.{sym, ap}
-use Rattle.value.specs.Places.{givenBy}
+use Rattle.value.specs.Laws.Places.{givenBy}
 use borrow.Author.Needs.{needs}
 use Rattle.value.proofs.given.Statement.{statement}
 use Rattle.value.proofs.given.Tie as tie

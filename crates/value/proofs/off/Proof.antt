@@ -1,5 +1,5 @@
 use mathlib.Core.Path.{sym, ap}
-use Rattle.value.specs.Places.{offBy}
+use Rattle.value.specs.Laws.Places.{offBy}
 use borrow.Author.Needs.{needs}
 use Rattle.value.proofs.off.Statement.{statement}
 use Rattle.value.proofs.off.Tie as tie

@@ -1,4 +1,4 @@
-use Rattle.value.specs.Places.{holds-none, sizes-numbers, number-fits, sizes-are}
+use Rattle.value.specs.Laws.Places.{holds-none, sizes-numbers, number-fits, sizes-are}
 use borrow.Author.Needs.{needs}
 use Rattle.value.proofs.sizes_in.Statement.{statement}
 use Rattle.value.proofs.sizes_in.Tie as tie

@@ -1,5 +1,5 @@
 use Rattle.date.proofs.Floats.{date-no-nan}
-use Rattle.value.specs.Places.{holds-none, span-starts, span-ends, date-fits, span-is}
+use Rattle.value.specs.Laws.Places.{holds-none, span-starts, span-ends, date-fits, span-is}
 use borrow.Author.Needs.{needs}
 use Rattle.value.proofs.span_in.Statement.{statement}
 use Rattle.value.proofs.span_in.Tie as tie

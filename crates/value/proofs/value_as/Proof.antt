@@ -1,5 +1,5 @@
 use native.Mathlib.Omega.{arith}
-use Rattle.value.specs.Places.{value-no, value-over, value-is}
+use Rattle.value.specs.Laws.Places.{value-no, value-over, value-is}
 use borrow.Author.Needs.{needs}
 use Rattle.value.proofs.value_as.Statement.{statement}
 use Rattle.value.proofs.value_as.Tie as tie

@@ -1,4 +1,4 @@
-use Rattle.value.specs.Places.{value-plain, value-by}
+use Rattle.value.specs.Laws.Places.{value-plain, value-by}
 use borrow.Author.Needs.{needs}
 use Rattle.value.proofs.value_in.Statement.{statement}
 use Rattle.value.proofs.value_in.Tie as tie

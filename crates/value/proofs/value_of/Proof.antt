@@ -1,4 +1,4 @@
-use Rattle.value.specs.Places.{value-none, value-off, value-of}
+use Rattle.value.specs.Laws.Places.{value-none, value-off, value-of}
 use borrow.Author.Needs.{needs}
 use Rattle.value.proofs.value_of.Statement.{statement}
 use Rattle.value.proofs.value_of.Tie as tie

@@ -1,4 +1,4 @@
-use Rattle.value.specs.Places.{holds-none, words-number, number-fits, words-are}
+use Rattle.value.specs.Laws.Places.{holds-none, words-number, number-fits, words-are}
 use borrow.Author.Needs.{needs}
 use Rattle.value.proofs.words_in.Statement.{statement}
 use Rattle.value.proofs.words_in.Tie as tie

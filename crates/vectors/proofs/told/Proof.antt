@@ -1,5 +1,5 @@
 use native.Mathlib.Omega.{arith}
-use Rattle.format.specs.Fault.{number-small}
+use Rattle.format.specs.Laws.Fault.{number-small}
 use borrow.Author.Needs.{needs}
 use Rattle.vectors.proofs.told.Statement.{statement}
 use Rattle.vectors.proofs.told.Tie as tie

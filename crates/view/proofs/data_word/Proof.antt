@@ -1,5 +1,5 @@
-use Rattle.walk.specs.Elements.{of-kind}
-use Rattle.view.specs.Word.{data-other}
+use Rattle.walk.specs.Laws.Elements.{of-kind}
+use Rattle.view.specs.Laws.Word.{data-other}
 use borrow.Author.Needs.{needs}
 use Rattle.view.proofs.data_word.Statement.{statement}
 use Rattle.view.proofs.data_word.Tie as tie

@@ -1,5 +1,5 @@
-use Rattle.walk.specs.Elements.{carries-cut, carries-none, carries-is}
-use Rattle.view.specs.View.{no-inside}
+use Rattle.walk.specs.Laws.Elements.{carries-cut, carries-none, carries-is}
+use Rattle.view.specs.Laws.View.{no-inside}
 use borrow.Author.Needs.{needs}
 use Rattle.view.proofs.element_word.Statement.{statement}
 use Rattle.view.proofs.element_word.Tie as tie

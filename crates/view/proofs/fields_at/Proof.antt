@@ -1,4 +1,4 @@
-use Rattle.view.specs.Fixed.{fixed-unreached, fixed-unsigned, fixed-unnamed, fixed-is}
+use Rattle.view.specs.Laws.Fixed.{fixed-unreached, fixed-unsigned, fixed-unnamed, fixed-is}
 use borrow.Author.Needs.{needs}
 use Rattle.view.proofs.fields_at.Statement.{statement}
 use Rattle.view.proofs.fields_at.Tie as tie

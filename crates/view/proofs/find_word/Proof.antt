@@ -1,8 +1,8 @@
 use native.Mathlib.Omega.{arith}
 use Rattle.view.specs.Word.{wordView}
-use Rattle.view.specs.Asked.{by-product, asked-none, asked-refused, asked-absent, asked-is}
-use Rattle.format.specs.Format.{bytes-all}
-use Rattle.view.specs.View.{view-hands, no-inside}
+use Rattle.view.specs.Laws.Asked.{by-product, asked-none, asked-refused, asked-absent, asked-is}
+use Rattle.format.specs.Laws.Format.{bytes-all}
+use Rattle.view.specs.Laws.View.{view-hands, no-inside}
 use mathlib.Core.Path.{ap, _∙_}
 use Rattle.deck.specs.Deck.{scanSays}
 use borrow.Author.Needs.{needs}

@@ -1,7 +1,8 @@
 use native.Mathlib.Omega.{arith}
-use Rattle.format.specs.Format.{bytes-all}
-use Rattle.view.specs.Fixed.{fixedFields, noFields, fields-say}
-use Rattle.view.specs.Asked.{asked-refused, asked-absent, asked-is}
+use Rattle.format.specs.Laws.Format.{bytes-all}
+use Rattle.view.specs.Fixed.{fixedFields}
+use Rattle.view.specs.Laws.Fixed.{noFields, fields-say}
+use Rattle.view.specs.Laws.Asked.{asked-refused, asked-absent, asked-is}
 use mathlib.Core.Path.{ap, _∙_}
 use Rattle.deck.specs.Deck.{scanSays}
 use borrow.Author.Needs.{needs}

@@ -1,4 +1,4 @@
-use Rattle.view.specs.Fixed.{kept-1, kept-2, kept-3, kept-4, kept-5, kept-is}
+use Rattle.view.specs.Laws.Fixed.{kept-1, kept-2, kept-3, kept-4, kept-5, kept-is}
 use borrow.Author.Needs.{needs}
 use Rattle.view.proofs.kept_at.Statement.{statement}
 use Rattle.view.proofs.kept_at.Tie as tie

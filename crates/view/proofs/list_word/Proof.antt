@@ -1,5 +1,5 @@
-use Rattle.view.specs.Word.{list-cut, list-short, list-is}
-use Rattle.view.specs.View.{no-inside}
+use Rattle.view.specs.Laws.Word.{list-cut, list-short, list-is}
+use Rattle.view.specs.Laws.View.{no-inside}
 use borrow.Author.Needs.{needs}
 use Rattle.view.proofs.list_word.Statement.{statement}
 use Rattle.view.proofs.list_word.Tie as tie

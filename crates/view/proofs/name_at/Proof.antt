@@ -1,4 +1,4 @@
-use Rattle.view.specs.View.{no-inside, name-unreached, name-is}
+use Rattle.view.specs.Laws.View.{no-inside, name-unreached, name-is}
 use borrow.Author.Needs.{needs}
 use Rattle.view.proofs.name_at.Statement.{statement}
 use Rattle.view.proofs.name_at.Tie as tie

@@ -1,4 +1,4 @@
-use Rattle.view.specs.View.{noView}
+use Rattle.view.specs.Laws.View.{noView}
 use borrow.Author.Needs.{needs}
 use Rattle.view.proofs.no_view.Statement.{statement}
 use Rattle.view.proofs.no_view.Tie as tie

@@ -1,5 +1,5 @@
 use native.Mathlib.Omega.{arith}
-use Rattle.view.specs.View.{inside-at, shown-at, shown-no, shown-none, from-at, from-no}
+use Rattle.view.specs.Laws.View.{inside-at, shown-at, shown-no, shown-none, from-at, from-no}
 use borrow.Author.Needs.{needs}
 use Rattle.view.proofs.part.Statement.{statement}
 use Rattle.view.proofs.part.Tie as tie

@@ -1,4 +1,4 @@
-use Rattle.view.specs.View.{placed-at, placed-no}
+use Rattle.view.specs.Laws.View.{placed-at, placed-no}
 use borrow.Author.Needs.{needs}
 use Rattle.view.proofs.place_of.Statement.{statement}
 use Rattle.view.proofs.place_of.Tie as tie

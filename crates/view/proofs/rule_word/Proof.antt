@@ -1,5 +1,5 @@
-use Rattle.view.specs.Word.{rule-cut, rule-short, rule-never, rule-is}
-use Rattle.view.specs.View.{no-inside}
+use Rattle.view.specs.Laws.Word.{rule-cut, rule-short, rule-never, rule-is}
+use Rattle.view.specs.Laws.View.{no-inside}
 use borrow.Author.Needs.{needs}
 use Rattle.view.proofs.rule_word.Statement.{statement}
 use Rattle.view.proofs.rule_word.Tie as tie

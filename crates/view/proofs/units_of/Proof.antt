@@ -1,5 +1,5 @@
 use native.Mathlib.Omega.{arith}
-use Rattle.view.specs.View.{no-inside, units-are, units-none, units-past, units-odd}
+use Rattle.view.specs.Laws.View.{no-inside, units-are, units-none, units-past, units-odd}
 use borrow.Author.Needs.{needs}
 use Rattle.view.proofs.units_of.Statement.{statement}
 use Rattle.view.proofs.units_of.Tie as tie

@@ -1,5 +1,5 @@
-use Rattle.view.specs.View.{no-inside}
-use Rattle.view.specs.Word.{word-never, word-is}
+use Rattle.view.specs.Laws.View.{no-inside}
+use Rattle.view.specs.Laws.Word.{word-never, word-is}
 use borrow.Author.Needs.{needs}
 use Rattle.view.proofs.word_in.Statement.{statement}
 use Rattle.view.proofs.word_in.Tie as tie

@@ -1,6 +1,6 @@
 use Prim.Native.Nat.{_-_, _≤_}
 use Rattle.format.specs.declared.Read.the-variants.{Got}
-use Rattle.format.specs.Skip.{Skipped, skip-start, skip-go, skip-stop, skip-end}
+use Rattle.format.specs.Laws.Skip.{Skipped, skip-start, skip-go, skip-stop, skip-end}
 use Rattle.text.specs.Text.{word}
 use borrow.Author.Needs.{needs}
 use Rattle.view.proofs.word_start.Statement.{statement}

@@ -1,4 +1,4 @@
-use Rattle.walk.specs.Elements.{counts-cut, counts-off, counts-is}
+use Rattle.walk.specs.Laws.Elements.{counts-cut, counts-off, counts-is}
 use borrow.Author.Needs.{needs}
 use Rattle.walk.proofs.counted_at.Statement.{statement}
 use Rattle.walk.proofs.counted_at.Tie as tie

@@ -1,6 +1,6 @@
 use Prim.Native.Nat.{_-_, _≤_}
 use Rattle.format.specs.declared.Read.the-variants.{Got}
-use Rattle.format.specs.Skip.{Skipped, skip-start, skip-go, skip-stop, skip-end}
+use Rattle.format.specs.Laws.Skip.{Skipped, skip-start, skip-go, skip-stop, skip-end}
 use Rattle.rule.specs.Rule.{placed}
 use borrow.Author.Needs.{needs}
 use Rattle.walk.proofs.element_start.Statement.{statement}

@@ -1,5 +1,5 @@
 use native.Mathlib.Omega.{arith}
-use Rattle.walk.specs.Elements.{identified-first, identified-later, identified-cut}
+use Rattle.walk.specs.Laws.Elements.{identified-first, identified-later, identified-cut}
 use borrow.Author.Needs.{needs}
 use Rattle.walk.proofs.identifier_at.Statement.{statement}
 use Rattle.walk.proofs.identifier_at.Tie as tie

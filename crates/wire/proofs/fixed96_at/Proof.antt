@@ -1,6 +1,6 @@
 use native.Mathlib.Omega.{arith}
 use mathlib.Core.Path.{refl}
-use Rattle.format.specs.Seen.{fixed-cut, parts-off, parts-got}
+use Rattle.format.specs.Laws.Seen.{fixed-cut, parts-off, parts-got}
 use borrow.Author.Needs.{needs}
 use Rattle.wire.proofs.fixed96_at.Statement.{statement}
 use Rattle.wire.proofs.fixed96_at.Tie as tie

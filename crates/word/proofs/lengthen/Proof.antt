@@ -1,5 +1,5 @@
-use Rattle.word.specs.Word.{lengthen-large, lengthen-room, lengthen-short, lengthen-done}
-use Rattle.parts.specs.Text.{text-small}
+use Rattle.word.specs.Laws.Word.{lengthen-large, lengthen-room, lengthen-short, lengthen-done}
+use Rattle.parts.specs.Laws.Text.{text-small}
 use native.Mathlib.Omega.{arith}
 use borrow.Author.Needs.{needs}
 use Rattle.word.proofs.lengthen.Statement.{statement}

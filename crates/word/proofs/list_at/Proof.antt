@@ -1,4 +1,4 @@
-use Rattle.word.specs.List.{last-list-cut, last-list-none, last-list-never, last-list-is}
+use Rattle.word.specs.Laws.List.{last-list-cut, last-list-none, last-list-never, last-list-is}
 use borrow.Author.Needs.{needs}
 use Rattle.word.proofs.list_at.Statement.{statement}
 use Rattle.word.proofs.list_at.Tie as tie

@@ -1,4 +1,4 @@
-use Rattle.walk.specs.Elements.{carries-cut, carries-is, carries-none}
+use Rattle.walk.specs.Laws.Elements.{carries-cut, carries-is, carries-none}
 use borrow.Author.Needs.{needs}
 use Rattle.word.proofs.list_in.Statement.{statement}
 use Rattle.word.proofs.list_in.Tie as tie

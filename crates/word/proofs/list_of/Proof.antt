@@ -1,5 +1,5 @@
-use Rattle.walk.specs.Elements.{of-kind}
-use Rattle.word.specs.List.{list-other}
+use Rattle.walk.specs.Laws.Elements.{of-kind}
+use Rattle.word.specs.Laws.List.{list-other}
 use borrow.Author.Needs.{needs}
 use Rattle.word.proofs.list_of.Statement.{statement}
 use Rattle.word.proofs.list_of.Tie as tie

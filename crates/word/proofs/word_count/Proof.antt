@@ -1,4 +1,4 @@
-use Rattle.word.specs.List.{list-cut, list-is}
+use Rattle.word.specs.Laws.List.{list-cut, list-is}
 use borrow.Author.Needs.{needs}
 use Rattle.word.proofs.word_count.Statement.{statement}
 use Rattle.word.proofs.word_count.Tie as tie

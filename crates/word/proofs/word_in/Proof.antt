@@ -1,10 +1,10 @@
-use Rattle.word.specs.Word.{word-none, word-no-list, word-full, word-text, word-done}
-use Rattle.locate.specs.Steps.{name-within, name-got}
-use Rattle.format.specs.Format.{bytes-all}
+use Rattle.word.specs.Laws.Word.{word-none, word-no-list, word-full, word-text, word-done}
+use Rattle.locate.specs.Laws.Steps.{name-within, name-got}
+use Rattle.format.specs.Laws.Format.{bytes-all}
 use borrow.Author.Tests.{not-true, not-false}
 use mathlib.Core.Path.{sym, _∙_}
 use native.Mathlib.Omega.{arith}
-use Rattle.plan.specs.Last.{last-unnamed}
+use Rattle.plan.specs.Laws.Last.{last-unnamed}
 use borrow.Author.Needs.{needs}
 use Rattle.word.proofs.word_in.Statement.{statement}
 use Rattle.word.proofs.word_in.Tie as tie

@@ -1,0 +1,141 @@
+-- Laws of the definitions in ../Faulty.antt, and what the code's inner contracts say by them.
+use Prim.Native.Nat.{ℕ, _+_, _≤_}
+use native.Mathlib.Omega.{arith}
+use mathlib.Core.Path.{_≡_, refl, _∙_}
+use mathlib.Core.Bool.{Bool, true, false}
+use mathlib.Core.List.{List, _∷_}
+use lib.Dec.{leb, eqb}
+use lib.ListN.{length, take, drop}
+use borrow.Author.Tests.{le-leb, leb-true}
+use Rattle.format.specs.declared.Fault.{Fault}
+use Rattle.format.specs.declared.Fault.the-variants as Fault
+use Rattle.format.specs.declared.Outcome.{Outcome}
+use Rattle.format.specs.declared.Outcome.the-variants as Outcome
+use Rattle.format.specs.Fault.{numberOf}
+use Rattle.format.specs.Format.{Answer, got, refused, endOf, shift, mapped, andThen, whole, pick, Format, Bytes}
+use Rattle.format.specs.ReadWrite.{pairRead, judge, judgeOf, numberRead, value, within}
+use Rattle.format.specs.Laws.ReadWrite.{within-is}
+use Rattle.format.specs.Combinators.{pair, judged, via, seq, _then_, number, fixed, bytes, each, counted}
+use Rattle.kind.specs.declared.Product.{Product}
+use Rattle.kind.specs.declared.Kind.{Kind}
+use Rattle.kind.specs.declared.Row.{Row}
+use Rattle.kind.specs.declared.Row.the-variants as Row
+use Rattle.kind.specs.Kinds.{rowOf}
+use Rattle.element.specs.Data.{dataOf}
+use Rattle.rule.specs.Rule.{Rule, rule}
+use Rattle.deck.specs.Deck.{mark, ruleCount, header, deck, readAs}
+use Rattle.plan.specs.Given.{given, givenBy, withData}
+use Rattle.bounds.specs.Calls.{most, elementNumbers}
+use Rattle.bounds.specs.Laws.Data.{row-refuses, given-end, whole-end}
+use Rattle.bounds.specs.Laws.Faults.{For, Gives, for-refused, for-mapped, for-shift, for-whole, gives-each, gives-count, gives-data, gives-rule}
+use Rattle.bounds.specs.Laws.Refused.{RefusedAs, refused-as}
+use Rattle.bounds.specs.Listed.{Listed, Numbers, allowed, Lists, numbers}
+use Rattle.bounds.specs.Laws.Listed.{allowed-first}
+
+-- what a deck is refused for: 2 to 13, at a place of the table where it is not past 60,000
+abbrev Told : Fault → ℕ → Type 0
+Told c q = (within 2 13 (numberOf c) ≡ true) × (q ≤ 60000 → Listed c q)
+
+-- at whatever place
+as-for : {A : Type 0} (P : Fault → ℕ → Type 0) (a : Answer A) → For (λ c. (q : ℕ) → P c q) a → RefusedAs P a
+unfolding RefusedAs For
+as-for P (got x n) f = tt
+as-for P (refused c q) f = f q
+
+-- a constant of k bytes is refused at its start, what stands behind it k bytes further on
+as-fixed : {B : Type 0} (P : Fault → ℕ → Type 0) (k v : ℕ) (c : Fault) (b : Format B) (s : List ℕ) → P Fault.Cut 0 → P c 0 → RefusedAs (λ d q. P d (k + q)) (b .read (drop k s)) → RefusedAs P ((fixed k v c then b) .read s)
+unfolding RefusedAs _then_ seq via pair pairRead andThen mapped shift fixed judged judgeOf judge number numberRead pick
+as-fixed {B} P k v c b s cut wrong f = long (leb k (length s))
+  where
+    on : (a : Answer B) → RefusedAs (λ d q. P d (k + q)) a → RefusedAs P (mapped (λ (p : Unit {0} × B). p .1) (shift k (mapped (λ y. (tt, y)) a)))
+    on (got y n) h = tt
+    on (refused d q) h = h
+
+    same : (t : Bool) → RefusedAs P (mapped (λ (p : Unit {0} × B). p .1) (andThen (mapped (λ x. tt) (judge c t (value (take k s)) k)) (λ x n. mapped (λ y. (x, y)) (b .read (drop n s)))))
+    same true = on (b .read (drop k s)) f
+    same false = wrong
+
+    long : (t : Bool) → RefusedAs P (mapped (λ (p : Unit {0} × B). p .1) (andThen (mapped (λ x. tt) (judgeOf (λ y. eqb y v) c (pick t (got (value (take k s)) k) (refused Fault.Cut 0)))) (λ x n. mapped (λ y. (x, y)) (b .read (drop n s)))))
+    long true = same (eqb (value (take k s)) v)
+    long false = cut
+
+-- 4 at 0 and 5 at 3, and nothing behind the header gives them
+header-told : (s : List ℕ) → RefusedAs Told (header .read s)
+unfolding header bytes mark value within Gives
+header-told s =
+    let count : For (λ c. (q : ℕ) → Told c (3 + (2 + q))) (ruleCount .read (drop 2 (drop 3 s))) = gives-count (λ c. (q : ℕ) → Told c (3 + (2 + q))) (λ q. (refl, λ h. h)) (λ q. (refl, λ h. h)) (λ q. (refl, λ h. h)) (λ q. (refl, λ h. h)) (λ q. (refl, λ h. h)) 2 0 256 (drop 2 (drop 3 s)) in
+    as-fixed Told 3 _ Fault.Mark _ s (refl, λ h. h) (refl, λ h. refl)
+    (as-fixed (λ c q. Told c (3 + q)) 2 1 Fault.Version ruleCount (drop 3 s) (refl, λ h. h) (refl, λ h. refl) (as-for (λ c q. Told c (3 + (2 + q))) _ count))
+
+-- at whatever place
+abbrev Always : Fault → Type 0
+Always c = (q : ℕ) → Told c q
+
+rules-told : (p : Product) (n : ℕ) → Gives Always (each (rule p) 0 n)
+unfolding within
+rules-told p n = gives-each Always (rule p) (gives-rule Always (λ q. (refl, λ h. h)) (λ q. (refl, λ h. h)) (λ q. (refl, λ h. h)) (λ q. (refl, λ h. h)) (λ q. (refl, λ h. h)) (λ q. (refl, λ h. h)) (λ q. (refl, λ h. h)) (λ q. (refl, λ h. h)) p) 0 n
+
+deck-told : (p : Product) (s : List ℕ) → RefusedAs Told (deck p .read s)
+unfolding deck counted via pair pairRead andThen mapped Gives RefusedAs
+deck-told p s = go (header .read s) (header-told s)
+  where
+    go : (a : Answer ℕ) → RefusedAs Told a → RefusedAs Told (mapped (λ (w : ℕ × List Rule). w .1) (andThen a (λ n k. mapped (λ xs. (n, xs)) (each (rule p) 0 n .read (drop k s)))))
+    go (got n k) h = as-for Told _ (for-mapped Always _ _ (for-shift Always k _ (for-mapped Always _ _ (rules-told p n (drop k s)))))
+    go (refused c q) h = h
+
+whole-told : {A : Type 0} (n : ℕ) (a : Answer A) → RefusedAs Told a → RefusedAs Told (whole n a)
+unfolding RefusedAs whole pick within
+whole-told n (got x m) h = go (eqb m n)
+  where
+    go : (b : Bool) → RefusedAs Told (pick b (got x m) (refused Fault.Over m))
+    go true = tt
+    go false = (refl, λ h. h)
+whole-told n (refused c q) h = h
+
+-- 2 to 13, at a place of the table
+abbrev pub Faulty : Fault → ℕ → Type 0
+Faulty c q = (within 2 13 (numberOf c) ≡ true) × ((q ≤ 60000) × Listed c q)
+
+pub deck-faulty : (p : Product) (s : List ℕ) → RefusedAs Faulty (readAs p s)
+unfolding readAs RefusedAs endOf pick within
+deck-faulty p s = long (leb (length s) 60000) refl
+  where
+    read : (a : Answer (List Rule)) → RefusedAs Told a → endOf a ≤ 60000 → RefusedAs Faulty a
+    read (got rs m) f h = tt
+    read (refused c q) f h = (f .0, (h, f .1 h))
+
+    long : (b : Bool) → leb (length s) 60000 ≡ b → RefusedAs Faulty (pick b (whole (length s) (deck p .read s)) (refused Fault.Long 60000))
+    long true l =
+        let z = leb-true (length s) 60000 l in
+        let w = whole-end (length s) (deck p .read s) in
+        let i = deck p .inside s in
+        read (whole (length s) (deck p .read s)) (whole-told (length s) (deck p .read s) (deck-told p s)) (omega arith)
+    long false l = (refl, (omega arith, refl))
+
+-- a call that begins with a deck gives 1 to 13, and then its own
+module _ (rows : List Numbers) where
+  pub edition-listed : Lists (numbers 1 13 60000 ∷ rows) (Outcome.No Fault.Edition 0)
+  edition-listed = (allowed-first 1 13 60000 rows 1 0 (omega arith) (omega arith) (omega arith), refl)
+
+  pub faulty-listed : (c : Fault) (q : ℕ) → Faulty c q → Lists (numbers 1 13 60000 ∷ rows) (Outcome.No c q)
+  faulty-listed c q f = let w = within-is 2 13 (numberOf c) (f .0) in (allowed-first 1 13 60000 rows (numberOf c) q (omega arith) (omega arith) (f .1 .0), f .1 .1)
+
+abbrev pub ElementListed : Fault → ℕ → Type 0
+ElementListed c q = Lists elementNumbers (Outcome.Given c q)
+
+abbrev Near : Fault → Type 0
+Near c = (q : ℕ) → q ≤ most → ElementListed c q
+
+data-listed : (k : Kind) → Gives Near (dataOf k)
+unfolding allowed within
+data-listed k = gives-data Near (λ q h. (rw (le-leb q most h), omega arith)) (λ q h. (rw (le-leb q most h), omega arith)) (λ q h. (rw (le-leb q most h), omega arith)) (λ q h. (rw (le-leb q most h), omega arith)) (λ q h. (rw (le-leb q most h), omega arith)) k
+
+pub element-listed : (p : Product) (id : ℕ) (s : List ℕ) → Bytes s → RefusedAs ElementListed (given p id s)
+unfolding given Gives allowed within endOf
+element-listed p id s b = refused-as ElementListed (given p id s) (λ c q e. go c q e (rowOf p id) refl e)
+  where
+    go : (c : Fault) (q : ℕ) → given p id s ≡ refused c q → (r : Row) → rowOf p id ≡ r → givenBy r id s ≡ refused c q → ElementListed c q
+    go c q e (Row.Is k) h z =
+        let n : Near c = for-refused Near (for-mapped Near (withData id) (whole (length s) (dataOf k .read s)) (for-whole Near (length s) (dataOf k .read s) (λ q h. (rw (le-leb q most h), omega arith)) (data-listed k s))) z in
+        n q (rw e at (given-end p id s b))
+    go c q e (Row.No d o) h z = row-refuses ElementListed (refl, omega arith) (refl, omega arith) p id (h ∙ (let w : Row.No d o ≡ Row.No c q = cc in w))

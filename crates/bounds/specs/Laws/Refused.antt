@@ -1,0 +1,144 @@
+-- Laws of the definitions in ../Refused.antt, and what the code's inner contracts say by them.
+use Prim.Native.Nat.{ℕ, _≤_}
+use mathlib.Core.Path.{_≡_, refl}
+use mathlib.Core.Bool.{Bool, true, false}
+use mathlib.Core.List.{List, [], _∷_}
+use lib.Dec.{leb}
+use lib.ListN.{length, take}
+use borrow.Author.Tests.{leb-true}
+use Rattle.format.specs.declared.Fault.{Fault}
+use Rattle.format.specs.declared.Fault.the-variants as Fault
+use Rattle.format.specs.Format.{Answer, got, refused, pick}
+use Rattle.kind.specs.declared.Product.{Product}
+use Rattle.kind.specs.declared.Edition.{Edition}
+use Rattle.kind.specs.declared.Edition.the-variants as Edition
+use Rattle.kind.specs.Kinds.{editionOf}
+use Rattle.element.specs.Data.{plain, words, sizes, span}
+use Rattle.element.specs.Element.{Element}
+use Rattle.rule.specs.Rule.{Rule}
+use Rattle.deck.specs.Deck.{readAs}
+use Rattle.deck.specs.Written.{written}
+use Rattle.plan.specs.Given.{given}
+use Rattle.plan.specs.Edit.{Edit, switch, rename, remove, insert, addRule, addElement, addWord, Plan, become, refuse, refuseGiven, atRule, atCopy, atSecond, atLast, atList, unlessFull, ifText, atGiven, edited, room, inRoom, plan, planBy, planned}
+use Rattle.bounds.specs.Calls.{judges, owns, Gift, givenTo, nothing, aDeck, anElement}
+
+-- a plan that is refused, if it is, as they say; and what is known of the list that it becomes
+abbrev pub Only : (List Rule → Type 0) → (Fault → ℕ → Type 0) → (Fault → ℕ → Type 0) → Plan → Type 0
+Only B N G (become rs) = B rs
+Only B N G (refuse c q) = N c q
+Only B N G (refuseGiven c q) = G c q
+
+abbrev Any : List Rule → Type 0
+Any rs = Unit {0}
+
+abbrev pub NotLarge : List Rule → Type 0
+NotLarge rs = length (written rs) ≤ 60000
+
+-- N says it of each
+unfoldable pub Each : (Fault → ℕ → Type 0) → List (Fault × ℕ) → Type 0
+Each N [] = Unit {0}
+Each N ((c, q) ∷ rows) = N c q × Each N rows
+
+-- an answer is refused, if it is, as G says of fault and place
+unfoldable pub RefusedAs : {A : Type 0} → (Fault → ℕ → Type 0) → Answer A → Type 0
+RefusedAs G (got x n) = Unit {0}
+RefusedAs G (refused c q) = G c q
+
+pub refused-as : {A : Type 0} (G : Fault → ℕ → Type 0) (a : Answer A) → ((c : Fault) (q : ℕ) → a ≡ refused c q → G c q) → RefusedAs G a
+unfolding RefusedAs
+refused-as G (got x n) f = tt
+refused-as G (refused c q) f = f c q refl
+
+pub as-refused : {A : Type 0} (G : Fault → ℕ → Type 0) {a : Answer A} {c : Fault} {q : ℕ} → RefusedAs G a → a ≡ refused c q → G c q
+unfolding RefusedAs
+as-refused G f e = rw e at f
+
+abbrev pub OfGift : (Fault → ℕ → Type 0) → Product → Gift → Type 0
+OfGift G p nothing = Unit {0}
+OfGift G p (aDeck s) = RefusedAs G (readAs p s)
+OfGift G p (anElement id s) = RefusedAs G (given p id s)
+
+module _ (N G : Fault → ℕ → Type 0) where
+  only-pick : (b : Bool) (q : Plan) (c : Fault) (at : ℕ) → N c at → Only Any N G q → Only Any N G (pick b q (refuse c at))
+  unfolding pick
+  only-pick true q c at h f = f
+  only-pick false q c at h f = h
+
+  only-text : (s : List ℕ) (q : Plan) → N Fault.Text 0 → Only Any N G q → Only Any N G (ifText s q)
+  unfolding ifText
+  only-text s q h f = only-pick _ q Fault.Text 0 h f
+
+  only-full : (n : ℕ) (q : Plan) → N Fault.Full 0 → Only Any N G q → Only Any N G (unlessFull n q)
+  unfolding unlessFull
+  only-full n q h f = only-pick _ q Fault.Full 0 h f
+
+  only-rule : (ys : List Rule) (f : Rule → List Rule → Plan) → N Fault.Absent 0 → ((r : Rule) (later : List Rule) → Only Any N G (f r later)) → Only Any N G (atRule ys f)
+  unfolding atRule
+  only-rule [] f h g = h
+  only-rule (r ∷ later) f h g = g r later
+
+  only-copy : (ys : List Rule) (f : Rule → Plan) → N Fault.Absent 1 → ((r : Rule) → Only Any N G (f r)) → Only Any N G (atCopy ys f)
+  unfolding atCopy
+  only-copy [] f h g = h
+  only-copy (r ∷ later) f h g = g r
+
+  only-last : (ys : List Rule) (f : Rule → Plan) → N Fault.Last 0 → ((r : Rule) → Only Any N G (f r)) → Only Any N G (atLast ys f)
+  unfolding atLast
+  only-last [] f h g = h
+  only-last (r ∷ later) f h g = g r
+
+  only-list : (ys : List Element) (f : ℕ → List (List ℕ) → Plan) → N Fault.Last 0 → ((id : ℕ) (ws : List (List ℕ)) → Only Any N G (f id ws)) → Only Any N G (atList ys f)
+  unfolding atList
+  only-list [] f h g = h
+  only-list ((id, plain) ∷ later) f h g = h
+  only-list ((id, words ws) ∷ later) f h g = g id ws
+  only-list ((id, sizes a b) ∷ later) f h g = h
+  only-list ((id, span a b) ∷ later) f h g = h
+
+  only-given : (a : Answer Element) (f : Element → Plan) → RefusedAs G a → ((x : Element) → Only Any N G (f x)) → Only Any N G (atGiven a f)
+  unfolding atGiven RefusedAs
+  only-given (got x n) f h g = g x
+  only-given (refused c q) f h g = h
+
+  only-second : (a : Answer (List Rule)) (f : List Rule → Plan) → RefusedAs G a → ((qs : List Rule) → Only Any N G (f qs)) → Only Any N G (atSecond a f)
+  unfolding atSecond RefusedAs
+  only-second (got qs n) f h g = g qs
+  only-second (refused c q) f h g = h
+
+  only-edited : (p : Product) (e : Edit) (rs : List Rule) → Each N (judges e) → OfGift G p (givenTo e) → Only Any N G (edited p e rs)
+  unfolding edited Each
+  only-edited p (switch k on) rs j h = only-rule _ _ (j .0) (λ r later. tt)
+  only-edited p (rename k name) rs j h = only-rule _ _ (j .0) (λ r later. only-text name _ (j .1 .0) tt)
+  only-edited p (remove k) rs j h = only-rule _ _ (j .0) (λ r later. tt)
+  only-edited p (insert k second i) rs j h = only-second _ _ h (λ qs. only-pick _ _ Fault.Absent 0 (j .0) (only-copy _ _ (j .1 .0) (λ q. tt)))
+  only-edited p (addRule name f id s) rs j h = only-text name _ (j .0) (only-given _ _ h (λ x. tt))
+  only-edited p (addElement id s) rs j h = only-last _ _ (j .0) (λ r. only-full _ _ (j .1 .0) (only-given _ _ h (λ x. tt)))
+  only-edited p (addWord word) rs j h = only-last _ _ (j .0) (λ r. only-list _ _ (j .0) (λ id ws. only-full _ _ (j .1 .0) (only-text word _ (j .1 .1 .0) tt)))
+
+  only-room : (e : Edit) → Each N (owns e) → (cap : ℕ) (q : Plan) → Only Any N G q → Only NotLarge N G (inRoom cap q)
+  unfolding room pick Each
+  only-room e o cap (become rs) f = few (leb (length rs) 256) (leb (length (written rs)) 60000) refl (leb (length (written rs)) cap)
+    where
+      few : (a b : Bool) → leb (length (written rs)) 60000 ≡ b → (c : Bool) → Only NotLarge N G (pick a (pick b (pick c (become rs) (refuse Fault.Room 0)) (refuse Fault.Large 0)) (refuse Fault.Rules 0))
+      few true true l true = leb-true (length (written rs)) 60000 l
+      few true true l false = o .1 .1 .1 .1 .0
+      few true false l c = o .1 .1 .1 .0
+      few false b l c = o .1 .1 .0
+  only-room e o cap (refuse c q) f = f
+  only-room e o cap (refuseGiven c q) f = f
+
+  pub only-planned : (edition n : ℕ) (d : List ℕ) (e : Edit) → Each N (owns e) → ((p : Product) → editionOf edition ≡ Edition.Of p → RefusedAs N (readAs p (take n d)) × OfGift G p (givenTo e)) → Only NotLarge N G (planned edition n d e)
+  unfolding planned pick RefusedAs Each
+  only-planned edition n d e o w = by (editionOf edition) refl
+    where
+      read : (p : Product) (a : Answer (List Rule)) → RefusedAs N a × OfGift G p (givenTo e) → Only NotLarge N G (plan p (length d) e a)
+      read p (got rs m) f = only-room e o (length d) (edited p e rs) (only-edited p e rs (o .1 .1 .1 .1 .1) (f .1))
+      read p (refused c q) f = f .0
+
+      stated : (p : Product) (t : Bool) → editionOf edition ≡ Edition.Of p → Only NotLarge N G (pick t (plan p (length d) e (readAs p (take n d))) (refuse Fault.Stated 0))
+      stated p true f = read p (readAs p (take n d)) (w p f)
+      stated p false f = o .1 .0
+
+      by : (x : Edition) → editionOf edition ≡ x → Only NotLarge N G (planBy x n d e)
+      by (Edition.Of p) f = stated p (leb n (length d)) f
+      by Edition.Unknown f = o .0

@@ -1,0 +1,59 @@
+-- A rule switched on or off: its Enabled is written over.
+use Prim.Native.Nat.{ℕ, _+_, _≤_, _<_}
+use native.Mathlib.Omega.{arith}
+use mathlib.Core.Path.{_≡_, sym, ap, _∙_}
+use mathlib.Core.Bool.{Bool}
+use mathlib.Core.List.{List, _++_, append-assoc}
+use lib.ListN.{length, take, length-append}
+use lib.Seq.{length-take-le}
+use Rattle.format.specs.declared.Fault.the-variants as Fault
+use Rattle.format.specs.declared.Outcome.the-variants as Outcome
+use Rattle.format.specs.ReadWrite.{spelt, bit}
+use Rattle.format.specs.Laws.ReadWrite.{length-spelt}
+use Rattle.text.specs.Text.{string}
+use Rattle.kind.specs.declared.Product.{Product}
+use Rattle.rule.specs.Rule.{Rule}
+use Rattle.rule.specs.Laws.Parts.{front, front-long, kept, back}
+use Rattle.deck.specs.Laws.Written.{before, rules}
+use Rattle.deck.specs.Written.{startOf}
+use Rattle.buffer.specs.Laid.{putIn}
+use Rattle.buffer.specs.Laws.Holds.{Holds, holds-start, holds-put}
+use Rattle.locate.specs.Laws.Steps.{Here, here, nameEnd}
+use Rattle.plan.specs.Edit.{switch, edited, switched}
+use Rattle.plan.specs.Laws.Found.{Makes, Does}
+use Rattle.plan.specs.Laws.Makes.{name-ends, sound-small, sound-short, replaced-long, written-here, at-rule, no-rule, made-no, made-is}
+
+-- Enabled is written over
+switched-holds : (d : List ℕ) (n : ℕ) (on : Bool) (p : Product) (rs : List Rule) (k : ℕ) {e : ℕ} {y : List ℕ} (h : Here p (take n d) rs k) → n ≤ length d → e ≡ startOf rs k + 4 + length (string .write (h .r .name)) → y ≡ putIn d e (spelt 4 (bit on))
+    → Holds y (before (length rs) (take k rs) ++ (front (switched on (h .r)) ++ (back k (h .r .elements) ++ rules (k + 1) (h .later)))) n d
+unfolding front kept
+switched-holds d n on p rs k {e} {y} h w g z =
+    let r = h .r in
+    let B = before (length rs) (take k rs) in
+    let P = B ++ (spelt 4 (r .signature) ++ string .write (r .name)) in
+    let R = spelt 4 (r .unknown2) ++ (spelt 4 (r .unknown3) ++ (spelt 4 (r .unknown4) ++ (spelt 4 (r .unknown5) ++ (back k (r .elements) ++ rules (k + 1) (h .later))))) in
+    let i : take n d ≡ P ++ (spelt 4 (bit (r .on)) ++ R) = h .is ∙ simp append-assoc in
+    let t : length P ≡ e = omega (arith, length-append B (spelt 4 (r .signature) ++ string .write (r .name)), length-append (spelt 4 (r .signature)) (string .write (r .name)), length-spelt 4 (r .signature), h .starts, g) in
+    let q : P ++ (spelt 4 (bit on) ++ R) ≡ B ++ (front (switched on r) ++ (back k (r .elements) ++ rules (k + 1) (h .later))) = simp append-assoc in
+    rw q at (holds-put P (spelt 4 (bit (r .on))) R (spelt 4 (bit on)) (holds-start d n w) i t (length-spelt 4 (bit (r .on)) ∙ sym (length-spelt 4 (bit on))) z)
+
+same-long : (n : ℕ) (d : List ℕ) (p : Product) (rs : List Rule) (k : ℕ) (on : Bool) (h : Here p (take n d) rs k) → n ≤ length d
+    → length (before (length rs) (take k rs) ++ (front (switched on (h .r)) ++ (back k (h .r .elements) ++ rules (k + 1) (h .later)))) ≡ n
+same-long n d p rs k on h w =
+    let B = before (length rs) (take k rs) in
+    let L = back k (h .r .elements) ++ rules (k + 1) (h .later) in
+    omega (arith, length-append B (front (switched on (h .r)) ++ L), length-append (front (switched on (h .r))) L, front-long (switched on (h .r)), front-long (h .r), ap length (h .is), length-append B (front (h .r) ++ L), length-append (front (h .r)) L, length-take-le n d w)
+
+module _ (edition n k m a b : ℕ) (on : Bool) (d : List ℕ) where
+  pub switch-absent : m ≤ k → Makes edition (λ rs. k) n m a b (switch k on) d (Outcome.No Fault.Absent 0) d
+  unfolding Makes edited
+  switch-absent l p rs f o w em ea eb = made-no n d (no-rule rs k _ (omega arith))
+
+  pub switch-done : (e : ℕ) {y : List ℕ} → k < m → e ≡ nameEnd d a → y ≡ putIn d e (spelt 4 (bit on)) → Makes edition (λ rs. k) n m a b (switch k on) d (Outcome.Done n) y
+  unfolding Makes edited
+  switch-done e {y} l g z p rs f o w em ea eb = go (here p (take n d) rs k o (omega arith))
+    where
+      go : Here p (take n d) rs k → Does n (edited p (switch k on) rs) d (Outcome.Done n) y
+      go h = let e′ : e ≡ startOf rs k + 4 + length (string .write (h .r .name)) = rw ea at g ∙ name-ends n d h in
+          made-is n d (switched-holds d n on p rs k h w e′ z) (at-rule rs k _ (h .from)) (sym (written-here rs (h .later) k (h .r) (switched on (h .r)) (h .from) (omega arith)))
+          (same-long n d p rs k on h w) (omega arith) (rw (replaced-long rs (h .later) k (h .r) (switched on (h .r)) (h .from)) (sound-small n d o)) (sound-short n d w o)

@@ -1,0 +1,3 @@
+pub mod Deck
+pub mod Sample
+pub mod Written

@@ -1,0 +1,99 @@
+-- Laws of the definitions in ../Places.antt, and what the code's inner contracts say by them.
+use Prim.Native.Nat.{ℕ, _+_, _-_, _*_, _/_, _%_}
+use native.Mathlib.Omega.{arith}
+use mathlib.Core.Path.{_≡_, refl, sym, ap, _∙_}
+use mathlib.Core.List.{List, [], _∷_, _++_, append-assoc}
+use lib.ListN.{length, take, drop, length-append, length-drop}
+use lib.Seq.{take-append-seam}
+use Rattle.format.specs.Format.{Format, Bytes, got}
+use Rattle.format.specs.ReadWrite.{pairWrite, spelt, eachWrite, AllFit}
+use Rattle.format.specs.Laws.ReadWrite.{length-spelt}
+use Rattle.format.specs.Combinators.{pair, via, judged, seq, _then_, atStart, number, fixed, each, counted, listed}
+use Rattle.format.specs.Laws.Written.{behind, Stands, Held, Row}
+use Rattle.format.specs.Row.{startIn}
+use Rattle.format.specs.Laws.Skip.{nth}
+use Rattle.text.specs.Text.{stringLength, string, word}
+use Rattle.text.specs.Laws.Text.{string-length}
+use Rattle.kind.specs.declared.Product.{Product}
+use Rattle.kind.specs.declared.Role.the-variants.{Condition}
+use Rattle.kind.specs.declared.Kind.{Kind}
+use Rattle.kind.specs.declared.Kind.the-variants as Kind
+use Rattle.kind.specs.declared.Row.{Row as KindRow}
+use Rattle.kind.specs.declared.Row.the-variants as KindRow
+use Rattle.element.specs.Data.{Data, wordsOf, dataOf}
+use Rattle.element.specs.Laws.Data.{Other, words-none, list-parts}
+use Rattle.element.specs.Element.{Element, dataBy}
+use Rattle.rule.specs.Rule.{Rule, rule, placed}
+use Rattle.rule.specs.Places.{elementsAt}
+use Rattle.rule.specs.Laws.Places.{rule-elements}
+use Rattle.deck.specs.Deck.{readAs}
+use Rattle.deck.specs.Laws.Deck.{read-writes-back, deck-row}
+use Rattle.deck.specs.Written.{startOf}
+use Rattle.deck.specs.Laws.Written.{start-as}
+use Rattle.plan.specs.Given.{units}
+use Rattle.demands.specs.Places.{Between, UnitsOf, elementStart}
+
+-- ---- what stands at a place
+pub between : {A : Type 0} (a : Format A) (s : List ℕ) (at : ℕ) {x : A} {u : List ℕ} → Stands a s at x u → Between s at (at + length (a .write x)) (a .write x)
+between a s at {x} {u} b =
+    let z : at + length (a .write x) - at ≡ length (a .write x) = omega arith in
+    record { ends = refl; are = rw (z, b .is) (take-append-seam (a .write x) u) }
+
+-- value k of a row stands where it starts
+pub stands-in : {A : Type 0} (a : ℕ → Format A) (s : List ℕ) (from k : ℕ) (xs : List A) {x : A} {ys : List A} {t : List ℕ} → Row a s 0 from xs t → drop k xs ≡ x ∷ ys → Held (a k) s (startIn a from xs k) x
+stands-in a s from k xs {x} {ys} {t} row d =
+    let n = nth a s from k (startIn a from xs k) xs t refl row (omega (arith, length-drop k xs, ap length d)) in
+    let f : n .x ∷ n .ys ≡ x ∷ ys = sym (n .whole) ∙ d in
+    let z : n .x ≡ x = cc in
+    (n .tail, rw z at (n .stands))
+
+-- the units of a String, and of a word
+units-back : (i : ℕ) (us : List ℕ) → AllFit (λ j. number 2) i us → units (eachWrite (λ j. number 2) i us) ≡ us
+unfolding units eachWrite AllFit number spelt
+units-back i [] f = refl
+units-back i (u ∷ us) f =
+    let z : u % 256 + 256 * (u / 256 % 256) ≡ u = omega (arith, f .0) in
+    rw (z, units-back (i + 1) us (f .1))
+
+pub string-units : (s : List ℕ) (at : ℕ) {us u : List ℕ} → Stands string s at us u → UnitsOf us (take (2 * length us) (drop (at + length (stringLength .write (length us))) s))
+unfolding string atStart listed counted via pair pairWrite each
+string-units s at {us} {u} b =
+    let n = stringLength .write (length us) in
+    let bs = eachWrite (λ i. number 2) 0 us in
+    let l : length bs ≡ 2 * length us = omega (arith, string-length us, length-append n bs) in
+    let e : take (2 * length us) (drop (at + length n) s) ≡ bs = rw (← l, behind s at n (bs ++ u) (b .is ∙ append-assoc n bs u)) (take-append-seam bs u) in
+    (e, ap units e ∙ units-back 0 us (b .fit .0 .1 .1))
+
+pub word-units : (s : List ℕ) (at : ℕ) {us u : List ℕ} → Stands word s at us u → UnitsOf us (take (2 * length us) (drop (at + 4 + length (stringLength .write (length us))) s))
+unfolding word fixed _then_ seq via judged pair pairWrite number
+word-units s at {us} {u} b =
+    let e = behind s at (spelt 4 0) (string .write us ++ u) (b .is ∙ append-assoc (spelt 4 0) (string .write us) u) in
+    string-units s (at + 4) (record { fit = b .fit .0 .1; is = rw length-spelt at e })
+
+-- the words of data that have a word: only a word list has
+pub words-row : (w : ℕ) (s : List ℕ) (at : ℕ) {x : Data} {u us : List ℕ} {ws : List (List ℕ)} (o : KindRow) → drop w (wordsOf x) ≡ us ∷ ws → Stands (dataBy o) s at x u → Row (λ i. word) s 0 (at + 4) (wordsOf x) u
+words-row w s at {x} {u} o d = by o
+  where
+    other : (k : Kind) → Other k → Stands (dataOf k) s at x u → Row (λ i. word) s 0 (at + 4) (wordsOf x) u
+    other k i b = let z : wordsOf x ≡ [] = words-none [] (λ ws. ws) k x (b .fit) i in absurd (omega (arith, length-drop w (wordsOf x), ap length d, ap length z))
+
+    of : (k : Kind) → Stands (dataOf k) s at x u → Row (λ i. word) s 0 (at + 4) (wordsOf x) u
+    of Kind.Marker b = other Kind.Marker tt b
+    of (Kind.Simple r) b = other (Kind.Simple r) tt b
+    of Kind.WordList b = list-parts s at x u b .1
+    of (Kind.Size r) b = other (Kind.Size r) tt b
+    of (Kind.Dates r) b = other (Kind.Dates r) tt b
+
+    by : (o : KindRow) → Stands (dataBy o) s at x u → Row (λ i. word) s 0 (at + 4) (wordsOf x) u
+    by (KindRow.Is k) b = of k b
+    by (KindRow.No c q) b = other (Kind.Simple Condition) tt b
+
+-- ---- the deck s was read as the rules rs, and r is rule k of them
+module _ (p : Product) (s : List ℕ) (rs : List Rule) (n : ℕ) (bs : Bytes s) (e : readAs p s ≡ got rs n) (k : ℕ) {r : Rule} {later : List Rule} (is-r : drop k rs ≡ r ∷ later) where
+  pub rule-stands : Held (rule p k) s (startOf rs k) r
+  rule-stands =
+      let w = read-writes-back p s rs n bs e in
+      rw (start-as p rs k) at (stands-in (rule p) s 7 k rs (deck-row p s rs (w .fit) (w .is)) is-r)
+
+  pub element-stands : (i : ℕ) {x : Element} {others : List Element} → drop i (r .elements) ≡ x ∷ others → Held (placed p i) s (elementStart p rs k r i) x
+  element-stands i d = let h = rule-stands in stands-in (placed p) s (elementsAt p k (startOf rs k) r) i (r .elements) (rule-elements p k s (startOf rs k) r (h .0) (h .1)) d

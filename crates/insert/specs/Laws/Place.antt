@@ -1,0 +1,222 @@
+-- A gap for a rule, opened at a place of a deck.
+use Prim.Native.Nat.{ℕ, zero, suc, _+_, _-_, _≤_, _<_, max}
+use native.Mathlib.Omega.{arith}
+use native.Mathlib.Decide.{decLt}
+use mathlib.Core.Path.{_≡_, refl, sym, ap, _∙_}
+use mathlib.Core.Bool.{Bool, true, false}
+use mathlib.Core.List.{List, [], _∷_, _++_, append-assoc}
+use lib.Dec.{eqb}
+use lib.ListN.{length, take, drop, length-append, length-drop, take-append-drop}
+use lib.Seq.{length-take-le}
+use borrow.Author.Tests.{eq-eqb, ne-eqb}
+use Rattle.format.specs.Format.{pick}
+use Rattle.format.specs.ReadWrite.{spelt, eachWrite}
+use Rattle.format.specs.Laws.ReadWrite.{length-spelt}
+use Rattle.format.specs.declared.Fault.{Fault}
+use Rattle.format.specs.declared.Read.{Read}
+use Rattle.format.specs.declared.Read.the-variants as Read
+use Rattle.format.specs.Row.{startIn}
+use Rattle.text.specs.Text.{string}
+use Rattle.kind.specs.declared.Product.{Product}
+use Rattle.rule.specs.Rule.{Rule}
+use Rattle.rule.specs.Laws.Parts.{front, front-long, back, back-long, headBytes, inner, sizeOf}
+use Rattle.deck.specs.Laws.Written.{before, before-long, rules, rules-cons, rules-later, written-is}
+use Rattle.deck.specs.Written.{startOf}
+use Rattle.buffer.specs.Laid.{putIn}
+use Rattle.buffer.specs.Laws.Laid.{opened, moved, up}
+use Rattle.buffer.specs.Laws.Holds.{Holds, Gap, holds-start, holds-put, holds-open, holds-up}
+use Rattle.locate.specs.Laws.Steps.{Sound, Here, here, nameRead, nameEnd}
+use Rattle.plan.specs.Laws.Makes.{name-ends, name-there}
+use Rattle.parts.specs.Laws.Head.{head-long, head-short}
+
+-- how many bytes the rules from place k of m lose where a rule comes before them: "The rule at place 0 always has the long head .. others have the short one"
+unfoldable pub lost : ℕ → ℕ → ℕ
+lost k m = pick (eqb k 0) (pick (eqb m 0) 0 16) 0
+
+module _ (k m : ℕ) where
+  pub lost-later : (k ≡ 0 → ⊥) → 0 ≡ lost k m
+  unfolding lost pick
+  lost-later h = rw (ne-eqb k 0 h)
+
+  pub lost-none : k ≡ 0 → m ≡ 0 → 0 ≡ lost k m
+  unfolding lost pick
+  lost-none h i = rw (eq-eqb k 0 h, eq-eqb m 0 i)
+
+  pub lost-first : k ≡ 0 → (m ≡ 0 → ⊥) → 16 ≡ lost k m
+  unfolding lost pick
+  lost-first h i = rw (eq-eqb k 0 h, ne-eqb m 0 i)
+
+  pub lost-small : lost k m ≤ 16
+  unfolding lost pick
+  lost-small = go (eqb k 0) (eqb m 0)
+    where
+      go : (x y : Bool) → pick x (pick y 0 16) 0 ≤ 16
+      go true true = omega arith
+      go true false = omega arith
+      go false y = omega arith
+
+  pub lost-is : (lost k m ≡ 0 → ⊥) → (k ≡ 0) × (0 < m)
+  lost-is h =
+      elim (decLt 0 k) [
+        | yes u ↦ absurd (h (sym (lost-later (λ e. omega arith))))
+        | no u ↦ elim (decLt 0 m) [
+          | yes v ↦ (omega arith, v)
+          | no v ↦ absurd (h (sym (lost-none (omega arith) (omega arith))))
+        ]
+      ]
+
+-- whatever m rules the sound deck in the first n bytes has, place k starting at a and its rule ending at b:
+-- there is a gap of len bytes at place k, and the rules behind it stand as behind a rule
+unfoldable pub Opens : ℕ → ℕ → ℕ → ℕ → ℕ → ℕ → List ℕ → List ℕ → Type 0
+Opens n k m a b len d z = (p : Product) (rs : List Rule) → Sound p (take n d) rs → n ≤ length d → m ≡ length rs → k ≤ m → a ≡ startOf rs k → b ≡ startOf rs (k + 1) → 16 ≤ len → n + (len - lost k m) ≤ length d
+    → Gap z (λ G. before m (take k rs) ++ (G ++ rules (k + 1) (drop k rs))) len (n + (len - lost k m)) d
+
+-- the rules behind a place, as behind a rule
+first-lose : (r : Rule) (later : List Rule) → length (rules 0 (r ∷ later)) ≡ 16 + length (rules 1 (r ∷ later))
+unfolding sizeOf
+first-lose r later =
+    let b₀ = back 0 (r .elements) in
+    let b₁ = back 1 (r .elements) in
+    omega (
+      arith,
+      ap length (rules-cons 0 r later),
+      ap length (rules-cons 1 r later),
+      ap length (rules-later 1 2 later (omega arith) (omega arith)),
+      length-append (front r) (b₀ ++ rules 1 later),
+      length-append b₀ (rules 1 later),
+      length-append (front r) (b₁ ++ rules 2 later),
+      length-append b₁ (rules 2 later),
+      back-long 0 (r .elements),
+      back-long 1 (r .elements),
+      head-long,
+      head-short 1 (omega arith),
+    )
+
+pub rules-lose : (k : ℕ) (rs : List Rule) → length (rules k (drop k rs)) ≡ lost k (length rs) + length (rules (k + 1) (drop k rs))
+unfolding rules eachWrite
+rules-lose zero [] = rw (← lost-none 0 0 refl refl)
+rules-lose zero (r ∷ later) = rw (← lost-first 0 (length (r ∷ later)) refl (λ e. omega arith)) (first-lose r later)
+rules-lose (suc k) rs = rw (← lost-later (suc k) (length rs) (λ e. omega arith)) (ap length (rules-later (suc k) (suc k + 1) (drop (suc k) rs) (omega arith) (omega arith)) ∙ omega arith)
+
+rules-kept : (k : ℕ) (rs : List Rule) → lost k (length rs) ≡ 0 → rules k (drop k rs) ≡ rules (k + 1) (drop k rs)
+unfolding rules eachWrite
+rules-kept zero [] e = refl
+rules-kept zero (r ∷ later) e = absurd (omega (arith, lost-first 0 (length (r ∷ later)) refl (λ z. omega arith)))
+rules-kept (suc k) rs e = rules-later (suc k) (suc k + 1) (drop (suc k) rs) (omega arith) (omega arith)
+
+-- the parts of a sound deck at a place
+pub parts-at : (p : Product) (s : List ℕ) (rs : List Rule) (k : ℕ) → Sound p s rs → k ≤ length rs → s ≡ before (length rs) (take k rs) ++ rules k (drop k rs)
+parts-at p s rs k o l =
+    let t : length (take k rs) ≡ k = length-take-le k rs l in
+    o .is ∙ (rw (take-append-drop k rs, t) at (written-is (take k rs) (drop k rs)))
+
+module _ (n k m a b len : ℕ) (d z : List ℕ) where
+  -- nothing else is done where no rule behind it changes
+  pub opens-plain : lost k m ≡ 0 → z ≡ opened d n a a len → Opens n k m a b len d z
+  unfolding Opens startOf startIn rules
+  opens-plain e g p rs o w em l ea eb h r =
+      let P = before m (take k rs) in
+      let i : take n d ≡ P ++ rules (k + 1) (drop k rs) = rw (← em, rules-kept k rs (rw em at e)) at (parts-at p (take n d) rs k o (omega arith)) in
+      let hi : max n (n - (a - a) + len) ≡ n + (len - lost k m) = omega arith in
+      rw hi at (holds-open P [] (rules (k + 1) (drop k rs)) (holds-start d n w) i (length-take-le n d w) (before-long m (take k rs) ∙ sym ea) (omega arith) (omega arith) g)
+
+  pub opens-first : (lost k m ≡ 0 → ⊥) → Opens n 0 m 7 b len d z → Opens n k m a b len d z
+  unfolding Opens startOf startIn rules eachWrite
+  opens-first e f p rs o w em l ea eb h r = let u = lost-is k m e .0 in rw u (f p rs o w em (omega arith) refl (rw u at eb) h (rw u at r))
+
+-- the first rule up to its head moves up, and gets another head and another Data Size
+four : (B M X Y I : List ℕ) → (B ++ M) ++ ((X ++ Y) ++ I) ≡ B ++ (M ++ (X ++ (Y ++ I)))
+four B M X Y I = simp append-assoc
+
+module _ (B F S C I d : List ℕ) (n s len : ℕ) where
+  shift-open : (H : List ℕ) {z : List ℕ} {a b : ℕ} → n ≤ length d → take n d ≡ B ++ (F ++ (S ++ (C ++ (H ++ I)))) → z ≡ opened d n a b (len + 2) → length B ≡ 7 → 7 + length F ≡ s → length S ≡ 4 → length C ≡ 2 → length H ≡ 18
+      → a ≡ s + 6 → b ≡ s + 24 → 16 ≤ len → n + (len - 16) ≤ length d → Gap z (λ G. (B ++ (F ++ (S ++ C))) ++ (G ++ I)) (len + 2) (n + (len - 16)) d
+  shift-open H {z} {a} {b} w i e lb lf ls lc lh ea eb l r =
+      let P = B ++ (F ++ (S ++ C)) in
+      let lp : length P ≡ a = simp length-append (omega arith) in
+      let j : take n d ≡ P ++ (H ++ I) = i ∙ simp append-assoc in
+      let t = length-take-le n d w in
+      let ld : n ≡ length P + (length H + length I) = sym t ∙ ap length j ∙ simp length-append in
+      let hi : max n (n - (b - a) + (len + 2)) ≡ n + (len - 16) = omega arith in
+      rw hi at (holds-open P H I (holds-start d n w) j t lp (omega arith) (omega arith) e)
+
+  shift-up : (M X Y : List ℕ) {y z : List ℕ} {hi e : ℕ} → Holds y ((B ++ M) ++ ((X ++ Y) ++ I)) hi d → z ≡ moved (up len) 7 e y → length B ≡ 7 → length X ≡ len → 7 + length M + len ≡ e
+      → Gap z (λ G. B ++ (G ++ (M ++ (Y ++ I)))) len hi d
+  shift-up M X Y h g lb lx le = holds-up B M X (Y ++ I) h (four B M X Y I) lb lx le g
+
+  shift-put : (G Y S₁ H₁ : List ℕ) {y z₃ z₄ : List ℕ} {hi a₃ a₄ : ℕ} → Holds y (B ++ (G ++ ((F ++ (S ++ C)) ++ (Y ++ I)))) hi d → z₃ ≡ putIn y a₃ S₁ → z₄ ≡ putIn z₃ a₄ H₁
+      → length B ≡ 7 → 7 + length F ≡ s → length S ≡ 4 → length C ≡ 2 → length G ≡ len → length Y ≡ 2 → length S₁ ≡ 4 → length H₁ ≡ 2 → a₃ ≡ s + len → a₄ ≡ s + 6 + len
+      → Holds z₄ (B ++ (G ++ (F ++ (S₁ ++ (C ++ (H₁ ++ I)))))) hi d
+  shift-put G Y S₁ H₁ {y} {z₃} {z₄} {hi} {a₃} {a₄} h e₃ e₄ lb lf ls lc lg ly ls₁ lh₁ f₃ f₄ =
+      let P = B ++ (G ++ F) in
+      let Q = B ++ (G ++ (F ++ (S₁ ++ C))) in
+      let lp : length P ≡ a₃ = simp length-append (omega arith) in
+      let lq : length Q ≡ a₄ = simp length-append (omega arith) in
+      let i : B ++ (G ++ ((F ++ (S ++ C)) ++ (Y ++ I))) ≡ P ++ (S ++ (C ++ (Y ++ I))) = simp append-assoc in
+      let j : P ++ (S₁ ++ (C ++ (Y ++ I))) ≡ Q ++ (Y ++ I) = simp append-assoc in
+      let k : Q ++ (H₁ ++ I) ≡ B ++ (G ++ (F ++ (S₁ ++ (C ++ (H₁ ++ I))))) = simp append-assoc in
+      rw k at (holds-put Q Y I H₁ (holds-put P S (C ++ (Y ++ I)) S₁ h i lp (ls ∙ sym ls₁) e₃) j lq (ly ∙ sym lh₁) e₄)
+
+  shifted : (H S₁ H₁ : List ℕ) {z₁ z₂ z₃ z₄ : List ℕ} {a₁ b₁ e₂ a₃ a₄ : ℕ} → n ≤ length d → take n d ≡ B ++ (F ++ (S ++ (C ++ (H ++ I))))
+      → z₁ ≡ opened d n a₁ b₁ (len + 2) → z₂ ≡ moved (up len) 7 e₂ z₁ → z₃ ≡ putIn z₂ a₃ S₁ → z₄ ≡ putIn z₃ a₄ H₁
+      → length B ≡ 7 → 7 + length F ≡ s → length S ≡ 4 → length C ≡ 2 → length H ≡ 18 → length S₁ ≡ 4 → length H₁ ≡ 2
+      → a₁ ≡ s + 6 → b₁ ≡ s + 24 → e₂ ≡ s + 6 + len → a₃ ≡ s + len → a₄ ≡ s + 6 + len → 16 ≤ len → n + (len - 16) ≤ length d
+      → Gap z₄ (λ G. B ++ (G ++ (F ++ (S₁ ++ (C ++ (H₁ ++ I)))))) len (n + (len - 16)) d
+  shifted H S₁ H₁ {z₁} {z₂} {z₃} {z₄} {a₁} {b₁} {e₂} {a₃} {a₄} w i e₁ m₂ e₃ e₄ lb lf ls lc lh ls₁ lh₁ f₁ g₁ f₂ f₃ f₄ l r = opens (shift-open H w i e₁ lb lf ls lc lh f₁ g₁ l r)
+    where
+      M : List ℕ
+      M = F ++ (S ++ C)
+
+      ups : (Y : List ℕ) → length Y ≡ 2 → Gap z₂ (λ G. B ++ (G ++ (M ++ (Y ++ I)))) len (n + (len - 16)) d → Gap z₄ (λ G. B ++ (G ++ (F ++ (S₁ ++ (C ++ (H₁ ++ I)))))) len (n + (len - 16)) d
+      ups Y ly g = record { bytes = g .bytes; long = g .long; holds = shift-put (g .bytes) Y S₁ H₁ (g .holds) e₃ e₄ lb lf ls lc (g .long) ly ls₁ lh₁ f₃ f₄ }
+
+      halves : (T : List ℕ) → length T ≡ len + 2 → Holds z₁ ((B ++ M) ++ (T ++ I)) (n + (len - 16)) d → Gap z₄ (λ G. B ++ (G ++ (F ++ (S₁ ++ (C ++ (H₁ ++ I)))))) len (n + (len - 16)) d
+      halves T lt h =
+          let m : 7 + length M + len ≡ e₂ = simp length-append (omega arith) in
+          ups (drop len T) (omega (arith, length-drop len T)) (shift-up M (take len T) (drop len T) (rw (take-append-drop len T) h) m₂ lb (length-take-le len T (omega arith)) m)
+
+      opens : Gap z₁ (λ G. (B ++ M) ++ (G ++ I)) (len + 2) (n + (len - 16)) d → Gap z₄ (λ G. B ++ (G ++ (F ++ (S₁ ++ (C ++ (H₁ ++ I)))))) len (n + (len - 16)) d
+      opens g = halves (g .bytes) (g .long) (g .holds)
+
+-- the first rule of a deck, by its parts
+first-is : (i : ℕ) (r : Rule) (t : List ℕ) → front r ++ (back i (r .elements) ++ t) ≡ front r ++ (spelt 4 (sizeOf i (r .elements)) ++ (spelt 2 (length (r .elements)) ++ (headBytes i ++ (inner (r .elements) ++ t))))
+unfolding back
+first-is i r t = simp append-assoc
+
+second-is : (r : Rule) (later : List Rule) → rules 1 (r ∷ later) ≡ front r ++ (spelt 4 (sizeOf 1 (r .elements)) ++ (spelt 2 (length (r .elements)) ++ (headBytes 1 ++ (inner (r .elements) ++ rules 1 later))))
+second-is r later = rules-cons 1 r later ∙ ap (λ (t : List ℕ). front r ++ (back 1 (r .elements) ++ t)) (rules-later 2 1 later (omega arith) (omega arith)) ∙ first-is 1 r (rules 1 later)
+
+module _ (n : ℕ) (d : List ℕ) {p : Product} {rs : List Rule} (h : Here p (take n d) rs 0) where
+  name-at : nameEnd d 7 ≡ 11 + length (string .write (h .r .name))
+  unfolding startOf startIn rules eachWrite
+  name-at = name-ends n d h ∙ omega arith
+
+  ends-at : startOf rs 1 ≡ nameEnd d 7 + 44 + length (inner (h .r .elements))
+  unfolding startOf startIn rules eachWrite sizeOf
+  ends-at = h .ends ∙ omega (arith, front-long (h .r), back-long 0 (h .r .elements), head-long, name-at)
+
+-- its name can be read
+pub opens-unnamed : (n m b len : ℕ) (d : List ℕ) {t : Read} {c : Fault} {q : ℕ} → t ≡ nameRead d 7 → t ≡ Read.No c q → 0 < m → Opens n 0 m 7 b len d d
+unfolding Opens startOf startIn rules eachWrite
+opens-unnamed n m b len d f g l p rs o w em k ea eb h r = name-there n d (here p (take n d) rs 0 o (omega arith)) f g
+
+module _ (n m b len : ℕ) (d : List ℕ) (e : ℕ) where
+  pub opens-not : e ≡ nameEnd d 7 → 0 < m → b < e + 44 → Opens n 0 m 7 b len d d
+  unfolding Opens
+  opens-not g q l p rs o w em k ea eb h r = absurd (omega (arith, ends-at n d (here p (take n d) rs 0 o (omega arith)), eb))
+
+  pub opens-shift : {z₁ z₂ z₃ z₄ : List ℕ} {a₁ b₁ e₂ a₃ a₄ t : ℕ} → e ≡ nameEnd d 7 → 0 < m → z₁ ≡ opened d n a₁ b₁ (len + 2) → z₂ ≡ moved (up len) 7 e₂ z₁ → z₃ ≡ putIn z₂ a₃ (spelt 4 t) → z₄ ≡ putIn z₃ a₄ (headBytes 1)
+      → a₁ ≡ e + 26 → b₁ ≡ e + 44 → e₂ ≡ e + 26 + len → a₃ ≡ e + 20 + len → a₄ ≡ e + 26 + len → t ≡ b - e - 40 → Opens n 0 m 7 b len d z₄
+  unfolding Opens sizeOf startOf startIn rules eachWrite
+  opens-shift {z₄ = z₄} {t = t} g q e₁ m₂ e₃ e₄ f₁ g₁ f₂ f₃ f₄ et p rs o w em k ea eb h r = go (here p (take n d) rs 0 o (omega arith))
+    where
+      go : Here p (take n d) rs 0 → Gap z₄ (λ G. before m (take 0 rs) ++ (G ++ rules (0 + 1) (drop 0 rs))) len (n + (len - lost 0 m)) d
+      go y =
+          let x = y .r in
+          let B = before m (take 0 rs) in
+          let i : take n d ≡ B ++ (front x ++ (spelt 4 (sizeOf 0 (x .elements)) ++ (spelt 2 (length (x .elements)) ++ (headBytes 0 ++ (inner (x .elements) ++ rules 1 (y .later)))))) = rw (← em, first-is) at (y .is) in
+          let l : 16 ≡ lost 0 m = lost-first 0 m refl (λ u. omega arith) in
+          let v : t ≡ sizeOf 1 (x .elements) = omega (arith, ends-at n d y, eb, head-short 1 (omega arith)) in
+          rw (← l, y .from, second-is x (y .later), ← v) (shifted B (front x) (spelt 4 (sizeOf 0 (x .elements))) (spelt 2 (length (x .elements))) (inner (x .elements) ++ rules 1 (y .later)) d n (e + 20) len (headBytes 0) (spelt 4 t) (headBytes 1) w i e₁ m₂ e₃ e₄
+          (rw em (y .starts)) (omega (arith, front-long x, name-at n d y)) (length-spelt 4 _) (length-spelt 2 _) head-long (length-spelt 4 t) (head-short 1 (omega arith))
+          (omega arith) (omega arith) (omega arith) (omega arith) (omega arith) h (omega arith))

@@ -1,0 +1,322 @@
+-- From rule to rule of a sound deck.
+use Prim.Native.Nat.{ℕ, _+_, _-_, _≤_, _<_}
+use native.Mathlib.Omega.{arith}
+use native.Mathlib.Decide.{decLt}
+use mathlib.Core.Path.{_≡_, refl, sym, ap, _∙_}
+use mathlib.Core.Bool.{Bool, true, false}
+use mathlib.Core.List.{List, [], _∷_, _++_, append-assoc, append-nil}
+use lib.ListN.{length, take, drop, length-append, take-append-drop}
+use lib.Dec.{leb}
+use borrow.Author.Tests.{le-leb, lt-leb, leb-true}
+use lib.Seq.{take-all, drop-at, length-take-le}
+use Rattle.format.specs.declared.Fault.{Fault}
+use Rattle.format.specs.declared.Fault.the-variants as Fault
+use Rattle.format.specs.declared.Outcome.{Outcome}
+use Rattle.format.specs.declared.Read.{Read}
+use Rattle.format.specs.declared.Read.the-variants.{Got, No}
+use Rattle.format.specs.Format.{Answer, got, refused, Bytes, pick}
+use Rattle.format.specs.ReadWrite.{eachWrite}
+use Rattle.format.specs.Laws.ReadWrite.{length-spelt}
+use Rattle.format.specs.Combinators.{number}
+use Rattle.format.specs.Laws.Seen.{seen, itself, unlike}
+use Rattle.format.specs.Laws.Written.{Held, Row}
+use Rattle.format.specs.Laws.Back.{Where, stands-seen, stands-room, seen-ends}
+use Rattle.format.specs.Row.{startIn}
+use Rattle.format.specs.Laws.Skip.{Skipped, skip-start, skip-step, skip-end, skip-nth, skip-is, skip-never, Nth, nth, start-more}
+use Rattle.text.specs.Text.{string}
+use Rattle.kind.specs.declared.Product.{Product}
+use Rattle.kind.specs.declared.Edition.{Edition}
+use Rattle.kind.specs.declared.Edition.the-variants as Edition
+use Rattle.kind.specs.Kinds.{editionOf}
+use Rattle.rule.specs.Rule.{Rule, rule}
+use Rattle.rule.specs.Laws.Parts.{front, back, sizeOf, body-size, rule-is}
+use Rattle.rule.specs.Places.{ruleBytes}
+use Rattle.rule.specs.Laws.Places.{rule-parts}
+use Rattle.deck.specs.Deck.{deck, readAs, readBy, readDeck, scanned, scanSays}
+use Rattle.deck.specs.Laws.Deck.{deck-row, read-writes-back}
+use Rattle.deck.specs.declared.Scan.{Scan}
+use Rattle.deck.specs.declared.Scan.the-variants as Scan
+use Rattle.deck.specs.Written.{written, startOf}
+use Rattle.deck.specs.Laws.Written.{written-as, written-is, rules, rules-cons, before, before-long, start-is, start-as}
+use Rattle.locate.specs.declared.Spot.{Spot}
+use Rattle.locate.specs.declared.Spot.the-variants as Spot
+use Rattle.locate.specs.Laws.Located.{located, noSpot}
+
+-- ---- a sound deck: its rules fit, and it is what they are written as
+pub record Sound (p : Product) (s : List ℕ) (rs : List Rule) : Type 0 where
+  pub fit : deck p .Fit rs
+  pub is : s ≡ written rs
+  pub short : length s ≤ 60000
+
+-- what was accepted is sound
+pub sound-read : (p : Product) (s : List ℕ) (rs : List Rule) (n : ℕ) → Bytes s → readAs p s ≡ got rs n → Sound p s rs
+sound-read p s rs n bs e = let w = read-writes-back p s rs n bs e in record { fit = w .fit; is = w .is ∙ written-as p rs; short = w .short }
+
+-- rule k of a sound deck, with what stands before it and behind it
+pub record Here (p : Product) (s : List ℕ) (rs : List Rule) (k : ℕ) : Type 0 where
+  pub r : Rule
+  pub later : List Rule
+  pub from : drop k rs ≡ r ∷ later
+  pub fits : rule p k .Fit r
+  pub is : s ≡ before (length rs) (take k rs) ++ (front r ++ (back k (r .elements) ++ rules (k + 1) later))
+  pub starts : length (before (length rs) (take k rs)) ≡ startOf rs k
+  pub ends : startOf rs (k + 1) ≡ startOf rs k + (length (front r) + length (back k (r .elements)))
+
+-- its rules stand behind its header
+sound-row : (p : Product) (s : List ℕ) (rs : List Rule) → Sound p s rs → Row (rule p) s 0 7 rs []
+sound-row p s rs o = deck-row p s rs (o .fit) (o .is ∙ sym (written-as p rs))
+
+pub here : (p : Product) (s : List ℕ) (rs : List Rule) (k : ℕ) → Sound p s rs → k < length rs → Here p s rs k
+here p s rs k o l = go (nth (rule p) s 7 k (startIn (rule p) 7 rs k) rs [] refl (sound-row p s rs o) l)
+  where
+    go : Nth (rule p) s 7 k (startIn (rule p) 7 rs k) rs → Here p s rs k
+    go v =
+        let w : take k rs ++ (v .x ∷ v .ys) ≡ rs = ap (λ (z : List Rule). take k rs ++ z) (sym (v .whole)) ∙ take-append-drop k rs in
+        let n : length (take k rs) ≡ k = length-take-le k rs (omega arith) in
+        let i = written-is (take k rs) (v .x ∷ v .ys) in
+        record {
+          r = v .x;
+          later = v .ys;
+          from = v .whole;
+          fits = v .stands .fit;
+          is = o .is ∙ (rw (w, n, rules-cons) at i);
+          starts = before-long (length rs) (take k rs) ∙ sym (start-is rs k);
+          ends = omega (arith, start-as p rs k, start-as p rs (k + 1), start-more (rule p) 7 k rs (v .ys) (v .x) (v .whole), ap length (rule-is p k (v .x)), length-append (front (v .x)) (back k (v .x .elements)));
+        }
+
+-- rule k of a sound deck stands where it starts
+pub here-stands : (p : Product) (s : List ℕ) (rs : List Rule) (k : ℕ) (h : Here p s rs k) → Held (rule p k) s (startOf rs k) (h .r)
+here-stands p s rs k h =
+    let L = rules (k + 1) (h .later) in
+    let w : front (h .r) ++ (back k (h .r .elements) ++ L) ≡ rule p k .write (h .r) ++ L = rw (rule-is p k (h .r), append-assoc) in
+    (L, record { fit = h .fits; is = ap (drop (startOf rs k)) (h .is) ∙ drop-at (before (length rs) (take k rs)) _ (startOf rs k) (h .starts) ∙ w })
+
+here-at : (p : Product) (s : List ℕ) (rs : List Rule) (k a : ℕ) (h : Here p s rs k) → a ≡ startOf rs k → Held (rule p k) s a (h .r)
+here-at p s rs k a h e = rw e (here-stands p s rs k h)
+
+-- ---- a rule that stands at a place, as it is stepped over
+
+-- whatever rule stands at a place, r tells where it ends
+unfoldable pub Follows : List ℕ → ℕ → Read → Type 0
+Follows s at r = (p : Product) (i : ℕ) → Where (rule p i) s at (λ x. Got 0 (at + ruleBytes p i x)) r
+
+-- the name of the rule that starts at a place: behind the 4 bytes of its signature
+unfoldable pub nameRead : List ℕ → ℕ → Read
+nameRead s at = pick (leb 4 (length s - at)) (seen length string s (at + 4)) (No Fault.Cut at)
+
+-- where it ends; where no String can be read there, the place itself
+abbrev pub ended : ℕ → Read → ℕ
+ended at (Got v n) = n
+ended at (No c q) = at
+
+unfoldable pub nameEnd : List ℕ → ℕ → ℕ
+nameEnd s at = ended at (nameRead s at)
+
+module _ (s : List ℕ) (at : ℕ) where
+  pub name-read : (p : Product) (i : ℕ) (x : Rule) → Held (rule p i) s at x → nameRead s at ≡ Got (length (x .name)) (at + 4 + length (string .write (x .name)))
+  unfolding nameRead pick
+  name-read p i x b =
+      let y = rule-parts p i s at x (b .0) (b .1) in
+      let h : 4 ≤ length s - at = omega (arith, stands-room (rule p i) s at (b .1), y .ends) in
+      rw (le-leb 4 (length s - at) h) (stands-seen length string s (at + 4) (y .named .1))
+
+  pub name-end : (p : Product) (i : ℕ) (x : Rule) → Held (rule p i) s at x → nameEnd s at ≡ at + 4 + length (string .write (x .name))
+  unfolding nameEnd
+  name-end p i x b = ap (ended at) (name-read p i x b)
+
+  -- it stands to its end
+  all-there : (p : Product) (i : ℕ) (x : Rule) → Held (rule p i) s at x → nameEnd s at + 24 + sizeOf i (x .elements) ≤ length s
+  all-there p i x b = omega (arith, name-end p i x b, rule-parts p i s at x (b .0) (b .1) .ends, body-size p i (x .elements), stands-room (rule p i) s at (b .1))
+
+  pub name-past : {w : ℕ} → w ≡ length s - at → w < 4 → No Fault.Cut at ≡ nameRead s at
+  unfolding nameRead pick
+  name-past {w} e h = rw (lt-leb 4 (length s - at) (omega arith))
+
+  pub name-is : {w : ℕ} {t : Read} → w ≡ length s - at → 4 ≤ w → t ≡ seen length string s (at + 4) → t ≡ nameRead s at
+  unfolding nameRead pick
+  name-is e h f = rw (le-leb 4 (length s - at) (omega arith)) f
+
+  pub name-within : at ≤ length s → nameEnd s at ≤ length s
+  unfolding nameEnd nameRead pick
+  name-within l = go (leb 4 (length s - at)) refl (seen length string s (at + 4)) refl
+    where
+      go : (b : Bool) → leb 4 (length s - at) ≡ b → (t : Read) → seen length string s (at + 4) ≡ t → ended at (pick b t (No Fault.Cut at)) ≤ length s
+      go true e (Got v n) f = omega (arith, leb-true 4 (length s - at) e, seen-ends length string s (at + 4) refl f)
+      go true e (No c q) f = l
+      go false e t f = l
+
+  -- t is what the name was read as
+  module _ {t : Read} (f : t ≡ nameRead s at) where
+    pub name-got : {u m : ℕ} → t ≡ Got u m → m ≡ nameEnd s at
+    unfolding nameEnd
+    name-got h = ap (ended at) (sym h ∙ f)
+
+    pub name-never : {B : Type 0} {c : Fault} {q : ℕ} → t ≡ No c q → (p : Product) (i : ℕ) (x : Rule) → Held (rule p i) s at x → B
+    name-never h p i x b = unlike (f ∙ name-read p i x b) h
+
+  -- m is where the name ends, z what Data Size was read as
+  module _ {m : ℕ} {z : Read} where
+    pub size-read : (p : Product) (i : ℕ) (x : Rule) → Held (rule p i) s at x → m ≡ nameEnd s at → z ≡ seen itself (number 4) s (m + 20) → z ≡ Got (sizeOf i (x .elements)) (m + 20 + 4)
+    unfolding number
+    size-read p i x b e f =
+        let w = e ∙ name-end p i x b in
+        let y = rule-parts p i s at x (b .0) (b .1) .sizes in
+        rw w (rw w at f ∙ (rw (length-spelt, body-size) at (stands-seen itself (number 4) s _ (y .1))))
+
+    pub size-is : {v q : ℕ} (p : Product) (i : ℕ) (x : Rule) → Held (rule p i) s at x → m ≡ nameEnd s at → z ≡ seen itself (number 4) s (m + 20) → z ≡ Got v q → (v ≡ sizeOf i (x .elements)) × (q ≡ m + 20 + 4)
+    size-is {v} {q} p i x b e f k = let g : Got v q ≡ Got (sizeOf i (x .elements)) (m + 20 + 4) = sym k ∙ size-read p i x b e f in ((cc), (cc))
+
+  module _ {t : Read} where
+    pub follows-unnamed : (r : Read) {c : Fault} {q : ℕ} → t ≡ nameRead s at → t ≡ No c q → Follows s at r
+    unfolding Follows Where
+    follows-unnamed r f h p i x b = name-never f h p i x b
+
+    module _ {u m : ℕ} where
+      pub follows-short : (r : Read) {w : ℕ} → t ≡ nameRead s at → t ≡ Got u m → w ≡ length s - m → w < 20 → Follows s at r
+      unfolding Follows Where
+      follows-short r f h g l p i x b = absurd (omega (arith, name-got f h, all-there p i x b))
+
+      module _ {z : Read} where
+        pub follows-unsized : (r : Read) {c : Fault} {q : ℕ} → t ≡ nameRead s at → t ≡ Got u m → z ≡ seen itself (number 4) s (m + 20) → z ≡ No c q → Follows s at r
+        unfolding Follows Where
+        follows-unsized r f h o k p i x b = unlike (size-read p i x b (name-got f h) o) k
+
+        module _ {v q : ℕ} where
+          pub follows-cut : (r : Read) {w : ℕ} → t ≡ nameRead s at → t ≡ Got u m → z ≡ seen itself (number 4) s (m + 20) → z ≡ Got v q → w ≡ length s - q → w < v → Follows s at r
+          unfolding Follows Where
+          follows-cut r f h o k g l p i x b =
+              let e = name-got f h in
+              let d = size-is p i x b e o k in
+              absurd (omega (arith, all-there p i x b, d .0, d .1, e))
+
+          pub follows-is : t ≡ nameRead s at → t ≡ Got u m → z ≡ seen itself (number 4) s (m + 20) → z ≡ Got v q → Follows s at (Got 0 (q + v))
+          unfolding Follows Where
+          follows-is f h o k p i x b =
+              let e = name-got f h in
+              let d = size-is p i x b e o k in
+              ap (Got 0) (omega (arith, rule-parts p i s at x (b .0) (b .1) .ends, body-size p i (x .elements), d .0, d .1, e, name-end p i x b))
+
+pub ruleset following = (follows-unnamed, follows-short, follows-unsized, follows-cut, follows-is)
+
+-- r is what was told of its end
+module _ (s : List ℕ) (at : ℕ) {r : Read} (f : Follows s at r) (p : Product) (i : ℕ) where
+  pub follows-got : {v q : ℕ} → r ≡ Got v q → Where (rule p i) s at (λ x. at + ruleBytes p i x) q
+  unfolding Follows Where
+  follows-got {v} {q} h x b = let g : Got v q ≡ Got 0 (at + ruleBytes p i x) = sym h ∙ f p i x b in cc
+
+  pub follows-never : {B : Type 0} {c : Fault} {q : ℕ} → r ≡ No c q → (x : Rule) → Held (rule p i) s at x → B
+  unfolding Follows Where
+  follows-never h x b = unlike (f p i x b) h
+
+-- ---- from rule to rule
+
+-- whatever rules stand behind the header, k of them or more, r tells where rule i of them starts
+unfoldable pub Reached : List ℕ → ℕ → ℕ → Read → Type 0
+Reached s k i r = (p : Product) → Skipped (rule p) s 7 k i r
+
+module _ (s : List ℕ) (k : ℕ) where
+  pub reached-start : Reached s k 0 (Got 0 7)
+  unfolding Reached
+  reached-start p = skip-start (rule p) s 7 k
+
+  module _ (i at : ℕ) where
+    pub reached-go : {r : Read} {v q : ℕ} → Reached s k i (Got 0 at) → i < k → Follows s at r → r ≡ Got v q → Reached s k (i + 1) (Got 0 q)
+    unfolding Reached
+    reached-go w l f h p = skip-step (rule p) s 7 k i at (w p) _ l (follows-got s at f p i h)
+
+    pub reached-stop : {r : Read} {c : Fault} {q : ℕ} → Reached s k i (Got 0 at) → i < k → Follows s at r → r ≡ No c q → Reached s k k r
+    unfolding Reached Skipped
+    reached-stop w l f h p xs t row m = let n = skip-nth (rule p) s 7 k i at (w p) xs t row m l in follows-never s at f p i h (n .x) (n .tail, n .stands)
+
+    pub reached-end : Reached s k i (Got 0 at) → i ≤ k → k ≤ i → Reached s k k (Got 0 at)
+    unfolding Reached
+    reached-end w l m p = skip-end (rule p) s 7 k i at (w p) l m
+
+  -- of a sound deck
+  module _ (i : ℕ) {r : Read} (w : Reached s k i r) (p : Product) (rs : List Rule) (o : Sound p s rs) (l : k ≤ length rs) where
+    pub reached-is : {v at : ℕ} → r ≡ Got v at → at ≡ startOf rs i
+    unfolding Reached
+    reached-is h = skip-is (rule p) s 7 k i (w p) rs [] (sound-row p s rs o) l h ∙ start-as p rs i
+
+    pub reached-never : {B : Type 0} {c : Fault} {q : ℕ} → r ≡ No c q → B
+    unfolding Reached
+    reached-never h = skip-never (rule p) s 7 k i (w p) rs [] (sound-row p s rs o) l h
+
+-- ---- what is answered
+
+-- past the last rule there is only the end of the deck
+pub start-past : (p : Product) (s : List ℕ) (rs : List Rule) (k : ℕ) → Sound p s rs → length rs ≤ k → startOf rs k ≡ length s
+unfolding rules eachWrite
+start-past p s rs k o l =
+    let t : take k rs ≡ rs = take-all k rs l in
+    let i = written-is rs [] in
+    let n : rs ++ [] ≡ rs = append-nil rs in
+    start-is rs k ∙ rw t (omega (arith, ap length (o .is), ap length (rw n at i), length-append (before (length rs) rs) (rules (length rs) []), before-long (length rs) rs))
+
+-- a rule stands within its deck
+pub start-within : (p : Product) (s : List ℕ) (rs : List Rule) (k : ℕ) → Sound p s rs → (startOf rs k ≤ startOf rs (k + 1)) × (startOf rs (k + 1) ≤ length s)
+start-within p s rs k o =
+    elim (decLt k (length rs)) [
+      | yes l ↦ inside (here p s rs k o l)
+      | no l ↦ let a = start-past p s rs k o (omega arith) in let b = start-past p s rs (k + 1) o (omega arith) in (omega arith, omega arith)
+    ]
+  where
+    inside : Here p s rs k → (startOf rs k ≤ startOf rs (k + 1)) × (startOf rs (k + 1) ≤ length s)
+    inside h =
+        let B = before (length rs) (take k rs) in
+        let L = rules (k + 1) (h .later) in
+        let b = back k (h .r .elements) in
+        (omega (arith, h .ends), omega (arith, h .ends, h .starts, ap length (h .is), length-append B (front (h .r) ++ (b ++ L)), length-append (front (h .r)) (b ++ L), length-append b L))
+
+-- whatever n rules a sound deck has, w is where rule k stands
+unfoldable pub Spots : List ℕ → ℕ → ℕ → Spot → Type 0
+Spots s n k w = (p : Product) (rs : List Rule) (m : ℕ) → Sound p s rs → n ≡ length rs → w ≡ located (λ xs. k) (got rs m)
+
+module _ (s : List ℕ) (n k : ℕ) where
+  pub spots-past : n ≤ k → Spots s n k (Spot.Is n (length s) (length s))
+  unfolding Spots
+  spots-past l p rs m o e = rw (start-past p s rs k o (omega arith), start-past p s rs (k + 1) o (omega arith), e)
+
+  -- f is what its start was told as, e its end
+  module _ {f : Read} where
+    pub spots-unreached : (w : Spot) {c : Fault} {q : ℕ} → k < n → Reached s k k f → f ≡ No c q → Spots s n k w
+    unfolding Spots
+    spots-unreached w l g h p rs m o x = reached-never s k k g p rs o (omega arith) h
+
+    module _ {u a : ℕ} (l : k < n) (g : Reached s k k f) (h : f ≡ Got u a) where
+      stands : (p : Product) (rs : List Rule) → Sound p s rs → n ≡ length rs → (a ≡ startOf rs k) × Here p s rs k
+      stands p rs o x = (reached-is s k k g p rs o (omega arith) h, here p s rs k o (omega arith))
+
+      pub spots-unended : (w : Spot) {e : Read} {c : Fault} {q : ℕ} → Follows s a e → e ≡ No c q → Spots s n k w
+      unfolding Spots
+      spots-unended w i j p rs m o x = let z = stands p rs o x in follows-never s a i p k j (z .1 .r) (here-at p s rs k a (z .1) (z .0))
+
+      pub spots-is : {e : Read} {v b : ℕ} → Follows s a e → e ≡ Got v b → Spots s n k (Spot.Is n a b)
+      unfolding Spots Where
+      spots-is {b = b} i j p rs m o x =
+          let z = stands p rs o x in
+          let r = z .1 .r in
+          let eb : b ≡ startOf rs (k + 1) = omega (arith, follows-got s a i p k j r (here-at p s rs k a (z .1) (z .0)), z .0, z .1 .ends, ap length (rule-is p k r), length-append (front r) (back k (r .elements))) in
+          rw (x, z .0, eb)
+
+-- k is the rule that is asked for
+module _ (k : List Rule → ℕ) (edition : ℕ) (s : List ℕ) {c : Scan} where
+  pub located-no : {o : Outcome} {w : Spot} {d : Fault} {q : ℕ} → c ≡ scanned (readDeck edition s) → c ≡ Scan.No d q → o ≡ scanSays c → w ≡ noSpot o → w ≡ located k (readDeck edition s)
+  located-no {d = d} {q = q} e h f g = g ∙ ap noSpot (f ∙ ap scanSays h) ∙ go (readDeck edition s) (sym h ∙ e)
+    where
+      go : (a : Answer (List Rule)) → Scan.No d q ≡ scanned a → Spot.No d q ≡ located k a
+      go (got rs m) z = absurd (let y : _≡_ {A = ℕ} 0 1 = cc in omega arith)
+      go (refused x y) z = cc
+
+  -- an accepted deck is sound
+  pub located-is : (j : ℕ) {w : Spot} {n t m : ℕ} → Bytes s → c ≡ scanned (readDeck edition s) → c ≡ Scan.Is n t → Spots s m j w → m ≡ n → ((rs : List Rule) → n ≡ length rs → j ≡ k rs) → w ≡ located k (readDeck edition s)
+  unfolding readDeck readBy Spots
+  located-is j {w} {n} {t} bs e h f en ek = by (editionOf edition) (sym h ∙ e)
+    where
+      go : (p : Product) (a : Answer (List Rule)) → readAs p s ≡ a → Scan.Is n t ≡ scanned a → w ≡ located k a
+      go p (got rs m) r z = let l : n ≡ length rs = cc in rw (← ek rs l) (f p rs m (sound-read p s rs m bs r) (en ∙ l))
+      go p (refused x y) r z = absurd (let u : _≡_ {A = ℕ} 0 1 = cc in omega arith)
+
+      by : (o : Edition) → Scan.Is n t ≡ scanned (readBy o s) → w ≡ located k (readBy o s)
+      by (Edition.Of p) z = go p (readAs p s) refl z
+      by Edition.Unknown z = absurd (let u : _≡_ {A = ℕ} 0 1 = cc in omega arith)

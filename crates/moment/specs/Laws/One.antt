@@ -1,0 +1,36 @@
+-- Two outcomes that the promise of a date allows coincide. Assumes nothing.
+use Prim.Native.Nat.{ℕ}
+use mathlib.Core.Path.{_≡_, refl, sym, ap, _∙_}
+use mathlib.Core.Bool.{Bool, true, false}
+use mathlib.Core.List.{[], _∷_}
+use Rattle.format.specs.declared.Fault.the-variants as Fault
+use Rattle.format.specs.declared.Outcome.the-variants as Outcome
+use Rattle.format.specs.Fault.{Said}
+use Rattle.civil.specs.declared.Civil.{Civil}
+use Rattle.civil.specs.Laws.Unique.{unique}
+use Rattle.date.specs.Double.{accepted}
+use Rattle.moment.specs.declared.Moment.{Moment}
+use Rattle.moment.specs.declared.Moment.the-variants.{At, No}
+use Rattle.moment.specs.Moment.{secondIn, momentSays, SaysBy, Says}
+
+-- what a moment says gives it back
+abbrev momentFrom : Said → Moment
+momentFrom (Outcome.Done n, []) = No Fault.Date 0
+momentFrom (Outcome.Done n, (y ∷ [])) = No Fault.Date 0
+momentFrom (Outcome.Done n, (y ∷ (m ∷ []))) = No Fault.Date 0
+momentFrom (Outcome.Done n, (y ∷ (m ∷ (d ∷ [])))) = No Fault.Date 0
+momentFrom (Outcome.Done n, (y ∷ (m ∷ (d ∷ (s ∷ later))))) = At (record { year = y; month = m; day = d }) s
+momentFrom (Outcome.No c q, vs) = No c q
+momentFrom (Outcome.Given c q, vs) = No c q
+
+moment-from : (r : Moment) → momentFrom (momentSays r) ≡ r
+moment-from (At c s) = refl
+moment-from (No f p) = refl
+
+said-one : (b : Bool) (bits : ℕ) (x y : Said) → SaysBy b bits x → SaysBy b bits y → x ≡ y
+said-one true bits x y f g = f .1 .1 ∙ ap (λ (c : Civil). momentSays (At c (secondIn bits))) (unique (f .0) (g .0) (f .1 .0 .0) (g .1 .0 .0) (f .1 .0 .1 ∙ sym (g .1 .0 .1))) ∙ sym (g .1 .1)
+said-one false bits x y f g = f ∙ sym g
+
+pub says-one : (bits : ℕ) (r q : Moment) → Says bits r → Says bits q → r ≡ q
+unfolding Says
+says-one bits r q f g = sym (moment-from r) ∙ ap momentFrom (said-one (accepted bits) bits (momentSays r) (momentSays q) f g) ∙ moment-from q

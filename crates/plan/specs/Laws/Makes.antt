@@ -1,0 +1,150 @@
+-- How an edit is shown to do its plan: from a sound deck in a buffer, through what is done to the buffer, to the deck of the edited list.
+use Prim.Native.Nat.{ℕ, _+_, _-_, _≤_, _<_, max}
+use native.Mathlib.Omega.{arith}
+use mathlib.Core.Path.{_≡_, refl, sym, ap, ap₂, _∙_}
+use mathlib.Core.Bool.{true, false}
+use mathlib.Core.List.{List, [], _∷_, _++_, append-assoc}
+use lib.ListN.{length, take, drop, length-append, take-append-drop, drop-of-length-le}
+use lib.Seq.{drop-at, length-take-le}
+use borrow.Author.Tests.{le-leb, lt-leb, lt-ltb, le-ltb}
+use Rattle.format.specs.declared.Fault.{Fault}
+use Rattle.format.specs.declared.Fault.the-variants as Fault
+use Rattle.format.specs.declared.Outcome.{Outcome}
+use Rattle.format.specs.declared.Outcome.the-variants as Outcome
+use Rattle.format.specs.declared.Read.{Read}
+use Rattle.format.specs.declared.Read.the-variants as Read
+use Rattle.format.specs.Format.{Answer, got, refused, pick}
+use Rattle.format.specs.Laws.Written.{Held}
+use Rattle.text.specs.Text.{string}
+use Rattle.kind.specs.declared.Product.{Product}
+use Rattle.element.specs.Element.{Element}
+use Rattle.rule.specs.Rule.{Rule, rule}
+use Rattle.rule.specs.Laws.Parts.{front, back, rule-is}
+use Rattle.deck.specs.Written.{written, startOf}
+use Rattle.deck.specs.Laws.Written.{written-is, before, rules, rules-cons}
+use Rattle.deck.specs.Laws.Deck.{deck-small}
+use Rattle.buffer.specs.Laid.{laid}
+use Rattle.buffer.specs.Laws.Holds.{Holds}
+use Rattle.locate.specs.Laws.Steps.{Sound, Here, here, nameRead, nameEnd, name-end, name-never}
+use Rattle.plan.specs.Given.{isText}
+use Rattle.plan.specs.Edit.{Edit, Plan, become, refuse, refuseGiven, atRule, atLast, ifText, unlessFull, atGiven, room, says, leaves}
+use Rattle.plan.specs.Laws.Found.{Makes, Does}
+
+-- ---- the deck that is found
+
+module _ (n : ℕ) (d : List ℕ) {p : Product} {rs : List Rule} where
+  -- a rule of the deck stands in the buffer where it stands in the deck
+  pub here-in : {k : ℕ} (h : Here p (take n d) rs k) → Held (rule p k) d (startOf rs k) (h .r)
+  here-in {k} h =
+      let L = rules (k + 1) (h .later) ++ drop n d in
+      let P = before (length rs) (take k rs) in
+      let w : d ≡ P ++ (rule p k .write (h .r) ++ L) = sym (take-append-drop n d) ∙ ap (λ (z : List ℕ). z ++ drop n d) (h .is) ∙ rw (rule-is p k (h .r)) (simp append-assoc) in
+      (L, record { fit = h .fits; is = ap (drop (startOf rs k)) w ∙ drop-at P _ (startOf rs k) (h .starts) })
+
+  pub name-ends : {k : ℕ} (h : Here p (take n d) rs k) → nameEnd d (startOf rs k) ≡ startOf rs k + 4 + length (string .write (h .r .name))
+  name-ends {k} h = name-end d (startOf rs k) p k (h .r) (here-in h)
+
+  -- its name can be read: t is what it was read as
+  pub name-there : {k : ℕ} {t : Read} {c : Fault} {q : ℕ} {B : Type 0} (h : Here p (take n d) rs k) → t ≡ nameRead d (startOf rs k) → t ≡ Read.No c q → B
+  name-there {k} h f g = name-never d (startOf rs k) f g p k (h .r) (here-in h)
+
+  -- it is of at most 256 rules, and at most 60,000 bytes long
+  pub sound-small : Sound p (take n d) rs → length rs ≤ 256
+  sound-small o = deck-small p rs (o .fit)
+
+  pub sound-short : n ≤ length d → Sound p (take n d) rs → n ≤ 60000
+  sound-short l o = omega (arith, o .short, length-take-le n d l)
+
+-- so an edit of rule k is not refused there
+pub makes-unnamed : (edition k n m a b : ℕ) (e : Edit) (d : List ℕ) (r : Outcome) (d′ : List ℕ) {t : Read} {c : Fault} {q : ℕ} → k < m → t ≡ nameRead d a → t ≡ Read.No c q → Makes edition (λ rs. k) n m a b e d r d′
+unfolding Makes
+makes-unnamed edition k n m a b e d r d′ l f g p rs x o w em ea eb = name-there n d (here p (take n d) rs k o (omega arith)) (f ∙ ap (nameRead d) ea) g
+
+-- ---- the deck of the edited list: rule k becomes x
+pub replaced-long : (rs later : List Rule) (k : ℕ) (r x : Rule) → drop k rs ≡ r ∷ later → length (take k rs ++ (x ∷ later)) ≡ length rs
+replaced-long rs later k r x e =
+    omega (arith, length-append (take k rs) (x ∷ later), length-append (take k rs) (drop k rs), ap length e, ap length (take-append-drop k rs))
+
+pub written-here : (rs later : List Rule) (k : ℕ) (r x : Rule) → drop k rs ≡ r ∷ later → k < length rs
+    → written (take k rs ++ (x ∷ later)) ≡ before (length rs) (take k rs) ++ (front x ++ (back k (x .elements) ++ rules (k + 1) later))
+written-here rs later k r x e l =
+    let t : length (take k rs) ≡ k = length-take-le k rs (omega arith) in
+    let n = replaced-long rs later k r x e in
+    rw (n, t, rules-cons) at (written-is (take k rs) (x ∷ later))
+
+-- ---- what was judged
+pub at-rule : (rs : List Rule) (k : ℕ) {r : Rule} {later : List Rule} (f : Rule → List Rule → Plan) → drop k rs ≡ r ∷ later → atRule (drop k rs) f ≡ f r later
+unfolding atRule
+at-rule rs k f e = rw e
+
+pub no-rule : (rs : List Rule) (k : ℕ) (f : Rule → List Rule → Plan) → length rs ≤ k → atRule (drop k rs) f ≡ refuse Fault.Absent 0
+unfolding atRule
+no-rule rs k f l = let e : drop k rs ≡ [] = drop-of-length-le rs {i = k} l in rw e
+
+pub at-last : (rs : List Rule) (k : ℕ) {r : Rule} {later : List Rule} (f : Rule → Plan) → drop k rs ≡ r ∷ later → atLast (drop k rs) f ≡ f r
+unfolding atLast
+at-last rs k f e = rw e
+
+pub no-last : (rs : List Rule) (f : Rule → Plan) → length rs ≡ 0 → atLast (drop (length rs - 1) rs) f ≡ refuse Fault.Last 0
+unfolding atLast
+no-last rs f l = let e : drop (length rs - 1) rs ≡ [] = drop-of-length-le rs {i = length rs - 1} (omega arith) in rw e
+
+pub if-text : (s : List ℕ) (q : Plan) → isText s ≡ true → ifText s q ≡ q
+unfolding ifText pick
+if-text s q e = rw e
+
+pub no-text : (s : List ℕ) (q : Plan) → isText s ≡ false → ifText s q ≡ refuse Fault.Text 0
+unfolding ifText pick
+no-text s q e = rw e
+
+pub not-full : (c : ℕ) (q : Plan) → c < 64 → unlessFull c q ≡ q
+unfolding unlessFull pick
+not-full c q l = rw (lt-ltb c 64 l)
+
+pub full : (c : ℕ) (q : Plan) → 64 ≤ c → unlessFull c q ≡ refuse Fault.Full 0
+unfolding unlessFull pick
+full c q l = rw (le-ltb c 64 l)
+
+pub at-given : {a : Answer Element} (f : Element → Plan) {x : Element} {l : ℕ} → a ≡ got x l → atGiven a f ≡ f x
+unfolding atGiven
+at-given f e = rw e
+
+pub no-given : {a : Answer Element} (f : Element → Plan) {c : Fault} {q : ℕ} → a ≡ refused c q → atGiven a f ≡ refuseGiven c q
+unfolding atGiven
+no-given f e = rw e
+
+-- ---- what a plan comes to
+module _ (n : ℕ) (d : List ℕ) {q : Plan} where
+  -- refused before the edit
+  pub made-no : {c : Fault} {o : ℕ} → q ≡ refuse c o → Does n q d (Outcome.No c o) d
+  unfolding says leaves
+  made-no e = rw e (refl, refl)
+
+  pub made-given : {c : Fault} {o : ℕ} → q ≡ refuseGiven c o → Does n q d (Outcome.Given c o) d
+  unfolding says leaves
+  made-given e = rw e (refl, refl)
+
+  -- the edited list
+  module _ {rs : List Rule} where
+    -- 18, 19, 20
+    pub made-rules : q ≡ become rs → 256 < length rs → Does n q d (Outcome.No Fault.Rules 0) d
+    unfolding says leaves room pick
+    made-rules e l = rw (e, lt-leb (length rs) 256 l) (refl, refl)
+
+    pub made-large : q ≡ become rs → length rs ≤ 256 → 60000 < length (written rs) → Does n q d (Outcome.No Fault.Large 0) d
+    unfolding says leaves room pick
+    made-large e l m = rw (e, le-leb (length rs) 256 l, lt-leb (length (written rs)) 60000 m) (refl, refl)
+
+    pub made-room : q ≡ become rs → length rs ≤ 256 → length (written rs) ≤ 60000 → length d < length (written rs) → Does n q d (Outcome.No Fault.Room 0) d
+    unfolding says leaves room pick
+    made-room e l m r = rw (e, le-leb (length rs) 256 l, le-leb (length (written rs)) 60000 m, lt-leb (length (written rs)) (length d) r) (refl, refl)
+
+    -- done: the buffer y holds the deck of the edited list, len bytes long
+    pub made-is : {y Y : List ℕ} {hi len : ℕ} → Holds y Y hi d → q ≡ become rs → Y ≡ written rs → length Y ≡ len → hi ≡ max n len → length rs ≤ 256 → len ≤ 60000 → Does n q d (Outcome.Done len) y
+    unfolding says leaves room pick
+    made-is {y} {Y} {hi} {len} h e w s i l m =
+        let z : length (written rs) ≡ len = sym (ap length w) ∙ s in
+        let v = h .room in
+        let g : length (written rs) ≤ length d = omega (arith, h .short) in
+        rw (e, le-leb (length rs) 256 l, le-leb (length (written rs)) 60000 (omega arith), le-leb (length (written rs)) (length d) g)
+        (ap Outcome.Done (sym z), h .is ∙ ap₂ (λ (a : List ℕ) (b : ℕ). laid a b d) w (i ∙ ap (max n) (sym z)))

@@ -1,0 +1,41 @@
+-- Laws of the definitions in ../Start.antt, and what the code's inner contracts say by them.
+use Prim.Native.Nat.{ℕ, _≤_, _<_}
+use native.Mathlib.Omega.{arith}
+use mathlib.Core.Path.{_≡_, refl, sym, ap, _∙_}
+use mathlib.Core.List.{List, []}
+use lib.ListN.{length}
+use borrow.Author.Tests.{le-leb, lt-leb}
+use Rattle.format.specs.declared.Fault.the-variants as Fault
+use Rattle.format.specs.declared.Outcome.{Outcome}
+use Rattle.format.specs.declared.Outcome.the-variants as Outcome
+use Rattle.format.specs.Format.{pick}
+use Rattle.format.specs.ReadWrite.{pairWrite, value, spelt, eachWrite}
+use Rattle.format.specs.Laws.ReadWrite.{length-spelt}
+use Rattle.format.specs.Combinators.{pair, seq, _then_, judged, via, number, count, fixed, bytes, each, counted}
+use Rattle.deck.specs.Deck.{mark, header, deck}
+use Rattle.deck.specs.Written.{written}
+use Rattle.buffer.specs.Laid.{putIn, put, laid}
+use Rattle.buffer.specs.Laws.Laid.{put-in, put-out}
+use Rattle.start.specs.Start.{startSays, startLeaves}
+
+-- ---- as the code writes it
+pub empty-is : spelt 7 0x014B4452 ≡ written []
+unfolding written deck counted header bytes mark fixed count via judged _then_ seq pair pairWrite number each eachWrite spelt value
+empty-is = refl
+
+pub empty-long : length (written []) ≡ 7
+empty-long = sym (ap length empty-is) ∙ length-spelt 7 0x014B4452
+
+module _ (d : List ℕ) where
+  pub start-none : length d < 7 → (Outcome.No Fault.Room 0 ≡ startSays (length d)) × (d ≡ startLeaves d)
+  unfolding startLeaves pick
+  start-none h = (rw (lt-leb 7 (length d) h), put-out d 0 (written []) (λ w. omega (arith, w, empty-long)))
+
+  pub start-is : {y : List ℕ} → 7 ≤ length d → y ≡ putIn d 0 (spelt 7 0x014B4452) → (Outcome.Done 7 ≡ startSays (length d)) × (y ≡ startLeaves d)
+  unfolding startLeaves pick
+  start-is h e = (rw (le-leb 7 (length d) h), e ∙ ap (putIn d 0) empty-is)
+
+  -- the empty deck is laid in the buffer
+  pub start-laid : 7 ≤ length d → startLeaves d ≡ laid (written []) 7 d
+  unfolding startLeaves put laid
+  start-laid h = put-in d 0 (written []) (omega (arith, empty-long)) ∙ rw empty-long
