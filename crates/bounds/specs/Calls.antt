@@ -1,4 +1,4 @@
--- Which numbers each call may give, and that it gives no others: document 01, "Numbers a refusal gives".
+-- Which numbers each call may give: document 01, "Numbers a refusal gives".
 use Prim.Native.Nat.{ℕ}
 use mathlib.Core.List.{List, [], _∷_}
 use Rattle.format.specs.declared.Fault.{Fault}
@@ -8,6 +8,7 @@ use Rattle.plan.specs.Edit.{Edit, switch, rename, remove, insert, addRule, addE
 use Rattle.bounds.specs.Listed.{Numbers, numbers, exactly}
 use Rattle.text.specs.Text.{word}
 
+-- the last place that a reading of an element's data can come to
 abbrev pub most : ℕ
 most = 33092
 
@@ -40,7 +41,7 @@ givenTo (addRule name f id s) = anElement id s
 givenTo (addElement id s) = anElement id s
 givenTo (addWord word) = nothing
 
--- ---- what a given element is refused for: "41 and 42 have place 0; the data may give 35, 38, 39, 40, 43, 45"
+-- what a given element is refused for: "41 and 42 have place 0; the data may give 35, 38, 39, 40, 43, 45"
 abbrev pub elementNumbers : List Numbers
 elementNumbers = numbers 35 35 most ∷ numbers 38 40 most ∷ numbers 41 42 0 ∷ numbers 43 43 most ∷ numbers 45 45 most ∷ []
 

@@ -1,4 +1,4 @@
--- The deck, its reading whole, and both halves of demand 2: document 01, "The deck" and "Numbers a refusal gives".
+-- The deck, and its reading whole: document 01, "The deck" and "Numbers a refusal gives".
 use Prim.Native.Nat.{ℕ}
 use mathlib.Core.List.{List, [], _∷_}
 use lib.ListN.{length}
@@ -51,8 +51,6 @@ readDeck edition s = readBy (editionOf edition) s
 abbrev pub answered : Answer (List Rule) → Outcome
 answered (got rs n) = Done (length rs)
 answered (refused c p) = No c p
-
--- ---- as the code reads it
 
 -- a pass over the deck tells the number of rules and that of their elements
 abbrev pub scanned : Answer (List Rule) → Scan

@@ -5,7 +5,7 @@ use lib.ListN.{length, take}
 use Rattle.format.specs.Format.{Format}
 use Rattle.format.specs.ReadWrite.{eachWrite}
 
--- the sum is told of what is told of each: the set `summing`
+-- the sum of a number of each
 unfoldable pub total : {A : Type 0} → (A → ℕ) → List A → ℕ
 total g [] = 0
 total g (x ∷ xs) = g x + total g xs

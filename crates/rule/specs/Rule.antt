@@ -71,8 +71,6 @@ rule p i = via (fields p i)
     (λ r. (r .signature, (r .name, (r .on, (r .unknown2, (r .unknown3, (r .unknown4, (r .unknown5, r .elements))))))))
     (λ f h. refl)
 
--- ---- as the code reads it
-
--- what the code tells of a rule
+-- "number of elements"
 abbrev pub elementsIn : Rule → ℕ
 elementsIn r = length (r .elements)

@@ -1,4 +1,4 @@
--- Demand 3: from an accepted deck, after any run of edits, the buffer holds the deck that would be written afresh from the edited list of rules.
+-- A run of edits, of a buffer and of a list of rules: document 01, "Edits and building".
 use Prim.Native.Nat.{ℕ, max}
 use mathlib.Core.Path.{_≡_}
 use mathlib.Core.List.{List, [], _∷_}

@@ -1,4 +1,4 @@
--- What is asked of rule k of a deck in an edition, and how the code finds it: by a pass over the deck first.
+-- What is asked of rule k of a deck in an edition: document 01, "Tables and views".
 use Prim.Native.Nat.{ℕ}
 use mathlib.Core.List.{List, [], _∷_}
 use lib.ListN.{drop}

@@ -1,4 +1,4 @@
--- The elements of a rule that is known to stand at a place, as the code finds them.
+-- What is told of an element of a rule that starts at a place: document 01, "Tables and views".
 use Prim.Native.Nat.{ℕ}
 use mathlib.Core.List.{List, [], _∷_}
 use lib.ListN.{drop}
@@ -8,8 +8,6 @@ use Rattle.element.specs.Data.{Data}
 use Rattle.element.specs.Element.{Element}
 use Rattle.rule.specs.Rule.{Rule, placed}
 use Rattle.rule.specs.Places.{elementsAt, dataAt}
-
--- ---- what is told of an element's data
 
 -- of the first of the elements that stand from a place on, those of their rule from e on: f of where its data start and of them
 module _ {W : Type 0} (absent : W) (f : ℕ → Data → W) where

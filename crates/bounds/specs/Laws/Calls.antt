@@ -1,4 +1,4 @@
--- Laws of the definitions in ../Calls.antt, and what the code's inner contracts say by them.
+-- Laws of ../Calls.antt: each call gives the numbers that are listed for it, and no others.
 use Prim.Native.Nat.{ℕ, _+_, _*_, _≤_}
 use native.Mathlib.Omega.{arith}
 use mathlib.Core.Path.{_≡_, refl}

@@ -1,4 +1,4 @@
--- Laws of the definitions in ../Data.antt, and what the code's inner contracts say by them.
+-- How far the data of an element go: at most 33,092 bytes, those of a list of 64 words of 255 units.
 use Prim.Native.Nat.{ℕ, _≤_}
 use native.Mathlib.Omega.{arith}
 use mathlib.Core.Path.{_≡_, refl, _∙_}

@@ -1,4 +1,4 @@
--- Laws of the definitions in ../Faulty.antt, and what the code's inner contracts say by them.
+-- What a deck and a given element are refused for: 2 to 13, at places of document 01's table.
 use Prim.Native.Nat.{ℕ, _+_, _≤_}
 use native.Mathlib.Omega.{arith}
 use mathlib.Core.Path.{_≡_, refl, _∙_}

@@ -1,4 +1,4 @@
--- Laws of the definitions in ../Listed.antt, and what the code's inner contracts say by them.
+-- Laws of ../Listed.antt: a number among the first rows, or among later ones.
 use Prim.Native.Nat.{ℕ, _≤_}
 use mathlib.Core.Path.{_≡_, refl}
 use mathlib.Core.Bool.{Bool, true, false, _&&_, _||_}

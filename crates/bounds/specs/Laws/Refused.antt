@@ -1,4 +1,4 @@
--- Laws of the definitions in ../Refused.antt, and what the code's inner contracts say by them.
+-- What an edit can be refused for, from what its parts can: N says which faults are its own, and at which places, G which are of what it is given.
 use Prim.Native.Nat.{ℕ, _≤_}
 use mathlib.Core.Path.{_≡_, refl}
 use mathlib.Core.Bool.{Bool, true, false}

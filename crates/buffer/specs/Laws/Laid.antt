@@ -1,4 +1,4 @@
--- Laws of the definitions in ../Laid.antt, and what the code's inner contracts say by them.
+-- Laws of ../Laid.antt: what bytes put, moved and opened leave of the whole buffer.
 use Prim.Native.Nat.{ℕ, zero, suc, _+_, _-_, _≤_, _<_, max}
 use native.Mathlib.Nat.{add-zero, sub-zero, zero-sub, suc-sub-suc}
 use native.Mathlib.Omega.{arith}

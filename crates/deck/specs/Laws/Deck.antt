@@ -1,4 +1,4 @@
--- Laws of the definitions in ../Deck.antt, and what the code's inner contracts say by them.
+-- Laws of ../Deck.antt: both halves of demand 2 for the whole deck; how the code passes over one; no place that a read answers is above 60,000.
 use Prim.Native.Nat.{ℕ, _+_, _≤_, _<_}
 use native.Mathlib.Nat.{zero-add}
 use native.Mathlib.Omega.{arith}

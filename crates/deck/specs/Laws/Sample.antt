@@ -1,4 +1,4 @@
--- Laws of the definitions in ../Sample.antt, and what the code's inner contracts say by them.
+-- The 70 bytes of ../Sample.antt are read as their rule, and it is written as them.
 use mathlib.Core.Path.{_≡_, refl}
 use mathlib.Core.Bool.{true}
 use mathlib.Core.List.{[], _∷_}

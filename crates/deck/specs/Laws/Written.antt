@@ -1,4 +1,4 @@
--- Laws of the definitions in ../Written.antt, and what the code's inner contracts say by them.
+-- Laws of ../Written.antt: a deck is its opening, the number of rules and the rules, alike in both editions; where each starts.
 use Prim.Native.Nat.{ℕ, _+_, _<_}
 use native.Mathlib.Nat.{zero-add}
 use native.Mathlib.Omega.{arith}

@@ -1,4 +1,4 @@
--- Laws of the definitions in ../Places.antt, and what the code's inner contracts say by them.
+-- What stands where in a deck that was read: laws for ../Tables.antt and ../Views.antt.
 use Prim.Native.Nat.{ℕ, _+_, _-_, _*_, _/_, _%_}
 use native.Mathlib.Omega.{arith}
 use mathlib.Core.Path.{_≡_, refl, sym, ap, _∙_}

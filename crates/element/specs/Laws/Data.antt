@@ -1,4 +1,4 @@
--- Laws of the definitions in ../Data.antt, and what the code's inner contracts say by them.
+-- Laws of ../Data.antt: only a word list has words; a list that stands at a place.
 use Prim.Native.Nat.{ℕ, _+_}
 use mathlib.Core.Path.{_≡_, sym, ap, _∙_}
 use mathlib.Core.List.{List, append-assoc}

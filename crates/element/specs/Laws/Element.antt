@@ -1,4 +1,4 @@
--- Laws of the definitions in ../Element.antt, and what the code's inner contracts say by them.
+-- Laws of ../Element.antt: how the code reads an element.
 use Prim.Native.Nat.{ℕ, _<_}
 use native.Mathlib.Omega.{arith}
 use mathlib.Core.Path.{_≡_, refl, sym, ap, _∙_}

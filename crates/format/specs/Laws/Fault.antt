@@ -1,4 +1,4 @@
--- Laws of the definitions in ../Fault.antt, and what the code's inner contracts say by them.
+-- Laws of ../Fault.antt: one number both ways; and a refusal handed on in another type.
 use Prim.Native.Nat.{ℕ, _+_, _-_, _/_, _%_, _<_}
 use native.Mathlib.Omega.{arith}
 use mathlib.Core.Path.{_≡_, refl, sym, ap, ap₂, _∙_}

@@ -1,4 +1,4 @@
--- Laws of the definitions in ../Format.antt, and what the code's inner contracts say by them.
+-- Laws of ../Format.antt: answers put together, bytes, and what a promise that is an equation settles.
 use Prim.Native.Nat.{ℕ, zero, suc, _+_, _-_, _≤_}
 use native.Mathlib.Omega.{arith}
 use mathlib.Core.Path.{_≡_, refl, sym, _∙_}

@@ -1,4 +1,4 @@
--- Laws of the definitions in ../Rows.antt, and what the code's inner contracts say by them.
+-- Rows as the code reads them: one value after the other, by the set `running`; a row of numbers, all at once.
 use Prim.Native.Nat.{ℕ, zero, suc, _+_, _-_, _*_, _≤_, _<_}
 use native.Mathlib.Nat.{add-zero, zero-add, add-assoc, mul-zero, mul-suc}
 use native.Mathlib.Omega.{arith}

@@ -1,4 +1,4 @@
--- Laws of the definitions in ../Skip.antt, and what the code's inner contracts say by them.
+-- Where a value of a row stands: behind those before it; and a loop that goes there.
 use Prim.Native.Nat.{ℕ, zero, suc, _+_, _≤_, _<_}
 use native.Mathlib.Nat.{add-zero, zero-add}
 use native.Mathlib.Omega.{arith}

@@ -1,4 +1,4 @@
--- Laws of the definitions in ../Kinds.antt, and what the code's inner contracts say by them.
+-- Laws of ../Kinds.antt: what a row tells, 17 and 35 identifiers, and how the code finds a row.
 use Prim.Native.Nat.{ℕ}
 use native.Mathlib.Omega.{arith}
 use mathlib.Core.Path.{_≡_, refl, ap}

@@ -1,4 +1,4 @@
--- Laws of the definitions in ../Adds.antt, and what the code's inner contracts say by them.
+-- A line as it is put into a buffer, piece by piece.
 use Prim.Native.Nat.{ℕ, _+_, _-_, _≤_}
 use native.Mathlib.Omega.{arith}
 use mathlib.Core.Path.{_≡_, sym, ap, subst, _∙_}

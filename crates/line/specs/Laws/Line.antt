@@ -1,4 +1,4 @@
--- Laws of the definitions in ../Line.antt, and what the code's inner contracts say by them.
+-- Laws of ../Line.antt: how long a line is, and that the digits of a number give it back.
 use Prim.Native.Nat.{ℕ, zero, suc, _+_, _-_, _*_, _/_, _%_, _^_, _≤_, _<_}
 use native.Mathlib.Nat.{not-suc-le-zero, le-of-suc-le-suc, pow-suc}
 use native.Mathlib.Omega.{arith}

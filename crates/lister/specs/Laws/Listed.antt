@@ -1,4 +1,4 @@
--- Laws of the definitions in ../Listed.antt, and what the code's inner contracts say by them.
+-- Laws of ../Listed.antt: as the code finds a row's numbers, and a rule's state and name.
 use Prim.Native.Nat.{ℕ, _+_, _-_, _*_, _/_, _≤_}
 use mathlib.Core.Path.{_≡_, sym, ap, _∙_}
 use mathlib.Core.Bool.{Bool, false}

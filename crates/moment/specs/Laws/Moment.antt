@@ -1,4 +1,4 @@
--- Laws of the definitions in ../Moment.antt, and what the code's inner contracts say by them.
+-- Laws of ../Moment.antt: as the code finds what a date says.
 use Prim.Native.Nat.{ℕ}
 use mathlib.Core.Path.{_≡_, refl}
 use mathlib.Core.Bool.{true, false}

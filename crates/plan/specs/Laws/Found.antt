@@ -1,4 +1,4 @@
--- Laws of the definitions in ../Found.antt, and what the code's inner contracts say by them.
+-- An edit's deck found in its buffer, and what is left to do: the edits' promise, from what they make of a sound deck.
 use Prim.Native.Nat.{ℕ, _+_, _≤_, _<_}
 use native.Mathlib.Omega.{arith}
 use mathlib.Core.Path.{_≡_, refl, sym, ap, _∙_}

@@ -1,4 +1,4 @@
--- Laws of the definitions in ../Given.antt, and what the code's inner contracts say by them.
+-- Laws of ../Given.antt: how the code judges a text and a given element.
 use Prim.Native.Nat.{ℕ, _%_}
 use native.Mathlib.Nat.{zero-add}
 use mathlib.Core.Path.{_≡_, sym, ap, _∙_}

@@ -1,4 +1,4 @@
--- Laws of the definitions in ../Handed.antt, and what the code's inner contracts say by them.
+-- Every edit that can be asked for is handed over as ../Handed.antt says, by the types of what is lent.
 use Prim.Native.Nat.{ℕ}
 use mathlib.Core.Bool.{Bool}
 use mathlib.Core.List.{List}

@@ -1,4 +1,4 @@
--- Laws of the definitions in ../Put.antt, and what the code's inner contracts say by them.
+-- The data of a value put into a buffer, as the code does it.
 use Prim.Native.Nat.{ℕ, _+_, _≤_, _<_}
 use native.Mathlib.Nat.{zero-add}
 use native.Mathlib.Omega.{arith}

@@ -1,4 +1,4 @@
--- Laws of the definitions in ../Places.antt, and what the code's inner contracts say by them.
+-- Laws of ../Places.antt: where the fields of a written rule stand, one behind the other.
 use Prim.Native.Nat.{ℕ, _+_, _-_, _^_, _<_}
 use native.Mathlib.Omega.{arith}
 use mathlib.Core.Path.{_≡_, refl, ap, _∙_}

@@ -1,4 +1,4 @@
--- Laws of the definitions in ../Rule.antt, and what the code's inner contracts say by them.
+-- Laws of ../Rule.antt: how the code reads a rule, and which rules fit.
 use Prim.Native.Nat.{ℕ, _+_, _*_, _^_, _<_, _≤_}
 use native.Mathlib.Omega.{arith}
 use mathlib.Core.Path.{_≡_, refl, sym, _∙_}

@@ -1,4 +1,4 @@
--- Laws of the definitions in ../Sent.antt, and what the code's inner contracts say by them.
+-- Laws of ../Sent.antt: an edit's promise packed, and that its place can be.
 use Prim.Native.Nat.{ℕ, _≤_, _<_, _^_}
 use native.Mathlib.Omega.{arith}
 use mathlib.Core.Path.{_≡_, ap, _∙_}

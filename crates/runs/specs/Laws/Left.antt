@@ -1,4 +1,4 @@
--- Laws of the definitions in ../Left.antt, and what the code's inner contracts say by them.
+-- Laws of ../Left.antt: any run, from an accepted deck or a started one, leaves the buffer so.
 use Prim.Native.Nat.{ℕ, _≤_}
 use native.Mathlib.Omega.{arith}
 use mathlib.Core.Path.{_≡_, refl, sym, ap, ap₂, _∙_}

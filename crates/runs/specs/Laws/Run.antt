@@ -1,4 +1,4 @@
--- Laws of the definitions in ../Run.antt, and what the code's inner contracts say by them.
+-- Laws of ../Run.antt: a run of edits of a buffer is the same run on the list of rules.
 use Prim.Native.Nat.{ℕ, _≤_}
 use native.Mathlib.Omega.{arith}
 use mathlib.Core.Path.{_≡_, refl, ap, ap₂, _∙_}

@@ -1,4 +1,4 @@
--- Laws of the definitions in ../Start.antt, and what the code's inner contracts say by them.
+-- Laws of ../Start.antt: a started deck, where there is room for it.
 use Prim.Native.Nat.{ℕ, _≤_, _<_}
 use native.Mathlib.Omega.{arith}
 use mathlib.Core.Path.{_≡_, refl, sym, ap, _∙_}

@@ -1,4 +1,4 @@
--- Laws of the definitions in ../Text.antt, and what the code's inner contracts say by them.
+-- Laws of ../Text.antt: how the code reads a String and a word, and how many bytes they are written in.
 use Prim.Native.Nat.{ℕ, _+_, _-_, _*_, _/_, _<_, _≤_}
 use native.Mathlib.Omega.{arith}
 use mathlib.Core.Path.{_≡_, refl, ap, _∙_}

@@ -1,4 +1,4 @@
--- Laws of the definitions in ../Asked.antt, and what the code's inner contracts say by them.
+-- Laws of ../Asked.antt: how the code finds rule k, by a pass over the deck first.
 use Prim.Native.Nat.{ℕ, _≤_, _<_}
 use native.Mathlib.Omega.{arith}
 use mathlib.Core.Path.{_≡_, refl, sym, ap, _∙_}

@@ -1,4 +1,4 @@
--- Laws of the definitions in ../Fixed.antt, and what the code's inner contracts say by them.
+-- Laws of ../Fixed.antt: how the code finds the fixed fields of a rule, and what they say.
 use Prim.Native.Nat.{ℕ, _+_, _%_, _^_, _<_}
 use native.Mathlib.Nat.{mod-eq-of-lt}
 use native.Mathlib.Omega.{arith}

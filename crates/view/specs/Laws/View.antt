@@ -1,4 +1,4 @@
--- Laws of the definitions in ../View.antt, and what the code's inner contracts say by them.
+-- Laws of ../View.antt: how the code finds the name of a rule, and which part a view is.
 use Prim.Native.Nat.{ℕ, _+_, _-_, _*_, _/_, _≤_, _<_}
 use native.Mathlib.Nat.{zero-add}
 use native.Mathlib.Omega.{arith}

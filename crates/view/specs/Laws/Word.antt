@@ -1,4 +1,4 @@
--- Laws of the definitions in ../Word.antt, and what the code's inner contracts say by them.
+-- Laws of ../Word.antt: how the code finds a word.
 use Prim.Native.Nat.{ℕ, _+_, _≤_, _<_}
 use native.Mathlib.Omega.{arith}
 use mathlib.Core.Path.{_≡_, sym, ap, _∙_}

@@ -1,4 +1,4 @@
--- Laws of the definitions in ../Elements.antt, and what the code's inner contracts say by them.
+-- Laws of ../Elements.antt: the elements of a rule that is known to stand at a place, as the code finds them.
 use Prim.Native.Nat.{ℕ, _+_, _-_, _<_}
 use native.Mathlib.Omega.{arith}
 use mathlib.Core.Path.{_≡_, sym, ap, _∙_}
