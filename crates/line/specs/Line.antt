@@ -9,21 +9,21 @@ use Rattle.format.specs.Format.{pick}
 use Rattle.buffer.specs.Laid.{put}
 
 -- the decimal digits of a number below 10 ^ k, the first one first; of 0 there are none
-unfoldable pub digits : ℕ → ℕ → List ℕ
-digits zero n = []
-digits (suc k) n = pick (eqb n 0) [] (digits k (n / 10) ++ ((48 + n % 10) ∷ []))
+unfoldable pub decimalDigits : ℕ → ℕ → List ℕ
+decimalDigits zero n = []
+decimalDigits (suc k) n = pick (eqb n 0) [] (decimalDigits k (n / 10) ++ ((48 + n % 10) ∷ []))
 
 -- "Other numbers are decimal"
 unfoldable pub decimal : ℕ → List ℕ
-decimal n = digits 19 (n / 10) ++ ((48 + n % 10) ∷ [])
+decimal n = decimalDigits 19 (n / 10) ++ ((48 + n % 10) ∷ [])
 
 -- the last hexadecimal digit of a number: `0` to `9`, `A` to `F`
 unfoldable pub hexDigit : ℕ → ℕ
 hexDigit n = pick (ltb (n % 16) 10) (48 + n % 16) (55 + n % 16)
 
 -- "identifier in eight upper-case hex digits"
-unfoldable pub identifier : ℕ → List ℕ
-identifier n =
+unfoldable pub hexDigits : ℕ → List ℕ
+hexDigits n =
     hexDigit (n / 0x10000000) ∷ hexDigit (n / 0x1000000) ∷ hexDigit (n / 0x100000) ∷ hexDigit (n / 0x10000)
     ∷ hexDigit (n / 0x1000) ∷ hexDigit (n / 0x100) ∷ hexDigit (n / 0x10) ∷ hexDigit n ∷ []
 
@@ -48,7 +48,7 @@ ruleLine k on units elements =
 
 -- `ELEM 0 000001F5 8`: "element within its rule, identifier in eight upper-case hex digits, data bytes"
 unfoldable pub elementLine : ℕ → ℕ → ℕ → List ℕ
-elementLine i id bytes = (0x45 ∷ 0x4C ∷ 0x45 ∷ 0x4D ∷ []) ++ (spaced (decimal i) ++ (spaced (identifier id) ++ (spaced (decimal bytes) ++ newline)))
+elementLine i id bytes = (0x45 ∷ 0x4C ∷ 0x45 ∷ 0x4D ∷ []) ++ (spaced (decimal i) ++ (spaced (hexDigits id) ++ (spaced (decimal bytes) ++ newline)))
 
 -- `END 1 1`: "all rules, all elements"
 unfoldable pub endLine : ℕ → ℕ → List ℕ

@@ -2,7 +2,7 @@
 ghost use mathlib.Core.Path.{_≡_};
 ghost use Prim.Native.Nat.{_+_, _≤_};
 ghost use lib.ListN.{length, drop};
-ghost use Rattle.line.specs.Line.{decimal, hexDigit, spaced, identifier, state, deckLine, ruleLine, elementLine, endLine, refusedLine};
+ghost use Rattle.line.specs.Line.{decimal, hexDigit, spaced, hexDigits, state, deckLine, ruleLine, elementLine, endLine, refusedLine};
 ghost use Rattle.line.specs.Laws.Adds.{Adds};
 ghost use Rattle.line.specs.Line.{Lined};
 
@@ -54,7 +54,7 @@ fn digit(n: u64) -> u8
 
 fn add_identifier(line: &mut [u8], at: usize, n: u32) -> usize
     requires { ⌜ at + 9 ≤ length (now line) ⌝ }
-    ensures { λ r. ⌜ Adds (now (line .entry)) at (spaced (identifier n)) r (now (line .exit)) × (r ≤ at + 9) ⌝ }
+    ensures { λ r. ⌜ Adds (now (line .entry)) at (spaced (hexDigits n)) r (now (line .exit)) × (r ≤ at + 9) ⌝ }
 {
     let n = n as u64;
     let text = [

@@ -9,7 +9,7 @@ ghost use lib.ListN.{length};
 ghost use Rattle.element.specs.Data.{wordData, sizeData, dateData, dataOf, wordsOf, sizesOf, spanOf};
 ghost use Rattle.value.specs.declared.Value.the-variants.{Size, Dates, Words};
 ghost use Rattle.value.specs.Value.{floats, valueIn, fromKind, valueOf, valueSays, valueAnswer};
-ghost use Rattle.value.specs.Laws.Places.{Holds, givenBy, offBy};
+ghost use Rattle.value.specs.Laws.Places.{Holds, asGiven, offBy};
 
 // A date span: whether the after date counts and whether the before date does, and the two dates.
 pub struct Span {
@@ -36,7 +36,7 @@ pub enum Valued {
 
 // The fault of a refused reading; of another, that bytes are left over behind it.
 fn given(r: Read) -> Valued
-    ensures { λ x. ⌜ x ≡ givenBy r ⌝ }
+    ensures { λ x. ⌜ x ≡ asGiven r ⌝ }
 {
     match r {
         Read::Got(_, e) => Valued::Given(Fault::Over, e),

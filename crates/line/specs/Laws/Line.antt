@@ -8,7 +8,7 @@ use mathlib.Core.List.{List, [], _∷_, _++_, append-assoc}
 use lib.ListN.{length, drop, set, length-set, drop-of-length-le}
 use borrow.Author.Tests.{lt-ltb, le-ltb, ne-eqb}
 use Rattle.format.specs.Format.{pick}
-use Rattle.line.specs.Line.{decimal, spaced, digits, hexDigit, identifier, state, newline, deckLine, ruleLine, elementLine, endLine, refusedLine}
+use Rattle.line.specs.Line.{decimal, spaced, decimalDigits, hexDigit, hexDigits, state, newline, deckLine, ruleLine, elementLine, endLine, refusedLine}
 
 -- ---- as the code makes them
 
@@ -31,7 +31,7 @@ fewer n j h = let e = pow-suc 10 j in omega arith
 
 -- what a turn of the loop leaves: the digits of the rest, then those that stand from i on
 pub record Spelling (s : List ℕ) (i rest n : ℕ) : Type 0 where
-  pub is : digits i rest ++ drop i s ≡ decimal n
+  pub is : decimalDigits i rest ++ drop i s ≡ decimal n
   pub long : length s ≡ 20
   pub low : i ≤ 19
   pub small : rest < 10 ^ i
@@ -40,29 +40,29 @@ pub spelling-first : (s : List ℕ) (n : ℕ) → length s ≡ 20 → n < 2 ^ 64
 unfolding decimal
 spelling-first s n h k =
     record {
-      is = ap (λ (l : List ℕ). digits 19 (n / 10) ++ l) (drop-set s 19 (48 + n % 10) (omega arith) ∙ ap (λ (l : List ℕ). (48 + n % 10) ∷ l) (drop-of-length-le s {i = 20} (omega arith)));
+      is = ap (λ (l : List ℕ). decimalDigits 19 (n / 10) ++ l) (drop-set s 19 (48 + n % 10) (omega arith) ∙ ap (λ (l : List ℕ). (48 + n % 10) ∷ l) (drop-of-length-le s {i = 20} (omega arith)));
       long = length-set s 19 (48 + n % 10) ∙ h;
       low = omega arith;
       small = omega arith;
     }
 
 pub spelling-next : {s : List ℕ} {n : ℕ} (i rest : ℕ) → Spelling s i rest n → 0 < rest → Spelling (set s (i - 1) (48 + rest % 10)) (i - 1) (rest / 10) n
-unfolding digits pick
+unfolding decimalDigits pick
 spelling-next zero rest h p = absurd (omega (arith, h .small))
 spelling-next {s} {n} (suc j) rest h p =
     let o : suc j - 1 ≡ j = omega arith in
     let x = 48 + rest % 10 in
-    let d : digits j (rest / 10) ++ drop j (set s j x) ≡ digits (suc j) rest ++ drop (suc j) s =
-    rw (drop-set s j x (omega (arith, h .low, h .long)), ne-eqb rest 0 (λ e. omega arith)) (sym (append-assoc (digits j (rest / 10)) (x ∷ []) (drop (suc j) s))) in
+    let d : decimalDigits j (rest / 10) ++ drop j (set s j x) ≡ decimalDigits (suc j) rest ++ drop (suc j) s =
+    rw (drop-set s j x (omega (arith, h .low, h .long)), ne-eqb rest 0 (λ e. omega arith)) (sym (append-assoc (decimalDigits j (rest / 10)) (x ∷ []) (drop (suc j) s))) in
     rw o (record { is = d ∙ h .is; long = length-set s j x ∙ h .long; low = omega (arith, h .low); small = fewer rest j (h .small) })
 
-none : (i : ℕ) → digits i 0 ≡ []
-unfolding digits pick
+none : (i : ℕ) → decimalDigits i 0 ≡ []
+unfolding decimalDigits pick
 none zero = refl
 none (suc i) = refl
 
 pub spelling-last : {s : List ℕ} {n i rest : ℕ} → Spelling s i rest n → rest ≡ 0 → drop i s ≡ decimal n
-spelling-last {s} {n} {i} h e = ap (λ (l : List ℕ). l ++ drop i s) (sym (none i)) ∙ ap (λ (r : ℕ). digits i r ++ drop i s) (sym e) ∙ h .is
+spelling-last {s} {n} {i} h e = ap (λ (l : List ℕ). l ++ drop i s) (sym (none i)) ∙ ap (λ (r : ℕ). decimalDigits i r ++ drop i s) (sym e) ∙ h .is
 
 pub spelling-left : {s : List ℕ} {n : ℕ} (i rest : ℕ) → Spelling s i rest n → 0 < rest → 1 ≤ i
 spelling-left zero rest h p = absurd (omega (arith, h .small))
@@ -77,8 +77,8 @@ unfolding state pick
 state-off on e = rw e
 
 pub identifier-is : (n : ℕ) {a b c d e f g h : ℕ} → a ≡ hexDigit (n / 0x10000000) → b ≡ hexDigit (n / 0x1000000) → c ≡ hexDigit (n / 0x100000) → d ≡ hexDigit (n / 0x10000)
-    → e ≡ hexDigit (n / 0x1000) → f ≡ hexDigit (n / 0x100) → g ≡ hexDigit (n / 0x10) → h ≡ hexDigit n → 0x20 ∷ a ∷ b ∷ c ∷ d ∷ e ∷ f ∷ g ∷ h ∷ [] ≡ spaced (identifier n)
-unfolding identifier
+    → e ≡ hexDigit (n / 0x1000) → f ≡ hexDigit (n / 0x100) → g ≡ hexDigit (n / 0x10) → h ≡ hexDigit n → 0x20 ∷ a ∷ b ∷ c ∷ d ∷ e ∷ f ∷ g ∷ h ∷ [] ≡ spaced (hexDigits n)
+unfolding hexDigits
 identifier-is n a b c d e f g h = rw (a, b, c, d, e, f, g, h)
 
 pub deck-is : (bytes : ℕ) → (((0x44 ∷ 0x45 ∷ 0x43 ∷ 0x4B ∷ []) ++ spaced (decimal 1)) ++ spaced (decimal bytes)) ++ newline ≡ deckLine bytes
@@ -91,7 +91,7 @@ unfolding ruleLine
 rule-is k on units elements = simp append-assoc
 
 pub element-is : (i id bytes : ℕ)
-    → ((((0x45 ∷ 0x4C ∷ 0x45 ∷ 0x4D ∷ []) ++ spaced (decimal i)) ++ spaced (identifier id)) ++ spaced (decimal bytes)) ++ newline ≡ elementLine i id bytes
+    → ((((0x45 ∷ 0x4C ∷ 0x45 ∷ 0x4D ∷ []) ++ spaced (decimal i)) ++ spaced (hexDigits id)) ++ spaced (decimal bytes)) ++ newline ≡ elementLine i id bytes
 unfolding elementLine
 element-is i id bytes = simp append-assoc
 
@@ -106,25 +106,25 @@ refused-is number place = simp append-assoc
 
 -- ---- the digits are the number's: read back, they give it
 
-unfoldable pub valueOf : ℕ → List ℕ → ℕ
-valueOf v [] = v
-valueOf v (d ∷ ds) = valueOf (10 * v + (d - 48)) ds
+unfoldable pub decimalValue : ℕ → List ℕ → ℕ
+decimalValue v [] = v
+decimalValue v (d ∷ ds) = decimalValue (10 * v + (d - 48)) ds
 
-value-append : (v : ℕ) (xs ys : List ℕ) → valueOf v (xs ++ ys) ≡ valueOf (valueOf v xs) ys
-unfolding valueOf
+value-append : (v : ℕ) (xs ys : List ℕ) → decimalValue v (xs ++ ys) ≡ decimalValue (decimalValue v xs) ys
+unfolding decimalValue
 value-append v [] ys = refl
 value-append v (x ∷ xs) ys = value-append (10 * v + (x - 48)) xs ys
 
-value-last : (n : ℕ) (xs : List ℕ) → valueOf 0 xs ≡ n / 10 → valueOf 0 (xs ++ ((48 + n % 10) ∷ [])) ≡ n
-unfolding valueOf
+value-last : (n : ℕ) (xs : List ℕ) → decimalValue 0 xs ≡ n / 10 → decimalValue 0 (xs ++ ((48 + n % 10) ∷ [])) ≡ n
+unfolding decimalValue
 value-last n xs e = value-append 0 xs ((48 + n % 10) ∷ []) ∙ omega (arith, e)
 
-value-digits : (k n : ℕ) → n < 10 ^ k → valueOf 0 (digits k n) ≡ n
-unfolding digits pick valueOf
+value-digits : (k n : ℕ) → n < 10 ^ k → decimalValue 0 (decimalDigits k n) ≡ n
+unfolding decimalDigits pick decimalValue
 value-digits zero n h = omega arith
 value-digits (suc k) zero h = refl
-value-digits (suc k) (suc n) h = rw (ne-eqb (suc n) 0 (λ e. omega arith)) (value-last (suc n) (digits k (suc n / 10)) (value-digits k (suc n / 10) (fewer (suc n) k h)))
+value-digits (suc k) (suc n) h = rw (ne-eqb (suc n) 0 (λ e. omega arith)) (value-last (suc n) (decimalDigits k (suc n / 10)) (value-digits k (suc n / 10) (fewer (suc n) k h)))
 
-pub value-decimal : (n : ℕ) → n < 2 ^ 64 → valueOf 0 (decimal n) ≡ n
+pub value-decimal : (n : ℕ) → n < 2 ^ 64 → decimalValue 0 (decimal n) ≡ n
 unfolding decimal
-value-decimal n h = value-last n (digits 19 (n / 10)) (value-digits 19 (n / 10) (omega arith))
+value-decimal n h = value-last n (decimalDigits 19 (n / 10)) (value-digits 19 (n / 10) (omega arith))

@@ -41,9 +41,9 @@ use Rattle.value.specs.declared.Value.{Value}
 use Rattle.value.specs.declared.Value.the-variants as Value
 
 -- the fault of a refused reading; of another, that bytes are left over behind it
-abbrev pub givenBy : Read → Valued
-givenBy (Got v n) = Valued.Given Fault.Over n
-givenBy (No c q) = Valued.Given c q
+abbrev pub asGiven : Read → Valued
+asGiven (Got v n) = Valued.Given Fault.Over n
+asGiven (No c q) = Valued.Given c q
 
 -- the fault of an identifier without a row
 abbrev pub offBy : Row → Valued
@@ -165,12 +165,12 @@ value-by k j id s out e o = rw e o
 -- ---- lone data, as the code judges them
 
 module _ (k : Kind) (id : ℕ) (s : List ℕ) {r : Read} {x : Valued} {q : ℕ} where
-  pub value-no : {c : Fault} → r ≡ seen none (dataOf k) s 0 → r ≡ No c q → x ≡ givenBy r → x ≡ fromKind k id s
+  pub value-no : {c : Fault} → r ≡ seen none (dataOf k) s 0 → r ≡ No c q → x ≡ asGiven r → x ≡ fromKind k id s
   unfolding fromKind seen whole
   value-no {c} e h o =
       let i = told-no 0 none (dataOf k .read s) e h in
       let z : q ≡ i .o = omega (arith, i .ends) in
-      o ∙ ap givenBy h ∙ ap (Valued.Given c) z ∙ ap (λ (a : Answer Data). fromData k id (whole (length s) a)) (sym (i .is))
+      o ∙ ap asGiven h ∙ ap (Valued.Given c) z ∙ ap (λ (a : Answer Data). fromData k id (whole (length s) a)) (sym (i .is))
 
   module _ {v : ℕ} where
     pub value-over : r ≡ seen none (dataOf k) s 0 → r ≡ Got v q → (q ≡ length s → ⊥) → x ≡ Valued.Given Fault.Over q → x ≡ fromKind k id s
