@@ -6,8 +6,7 @@ use locate::Spot;
 ghost use mathlib.Core.Path.{_≡_};
 ghost use Prim.Native.Nat.{ℕ, _<_};
 ghost use Rattle.locate.specs.Laws.Steps.{nameEnd};
-ghost use Rattle.plan.specs.Edit.{switch, rename};
-ghost use Rattle.plan.specs.Edit.{Edits};
+ghost use Rattle.plan.specs.Edit.{switch, rename, Edits};
 ghost use Rattle.plan.specs.Laws.Found.{Makes};
 ghost use Rattle.change.specs.Laws.Rename.{Named};
 

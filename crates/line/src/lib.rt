@@ -2,9 +2,8 @@
 ghost use mathlib.Core.Path.{_≡_};
 ghost use Prim.Native.Nat.{_+_, _≤_};
 ghost use lib.ListN.{length, drop};
-ghost use Rattle.line.specs.Line.{decimal, hexDigit, spaced, hexDigits, state, deckLine, ruleLine, elementLine, endLine, refusedLine};
+ghost use Rattle.line.specs.Line.{decimal, hexDigit, spaced, hexDigits, state, deckLine, ruleLine, elementLine, endLine, refusedLine, Lined};
 ghost use Rattle.line.specs.Laws.Adds.{Adds};
-ghost use Rattle.line.specs.Line.{Lined};
 
 // The decimal digits of n at the end of 20 bytes; answers where they start.
 fn spell(s: &mut [u8], n: u64) -> usize

@@ -14,8 +14,7 @@ ghost use Prim.Native.Nat.{_+_, _≤_};
 ghost use Rattle.buffer.specs.Laid.{putIn};
 ghost use Rattle.date.specs.Double.{accepted};
 ghost use Rattle.element.specs.Data.{plain, sizes, oneZero, markerData, simpleData, sizeData, limit, dateData};
-ghost use Rattle.put.specs.Plan.{shape, isOf, fromSpan, ifRoom, planData, planKind, putting, putSays, putLeaves};
-ghost use Rattle.put.specs.Plan.{Puts};
+ghost use Rattle.put.specs.Plan.{shape, isOf, fromSpan, ifRoom, planData, planKind, putting, putSays, putLeaves, Puts};
 ghost use Rattle.put.specs.Laws.Put.{limitOf, spanData};
 
 // 1, 0: two words of 4 bytes, written as one number.

@@ -8,8 +8,7 @@ ghost use Prim.Native.Nat.{ℕ, _+_, _-_, _^_, _≤_, _<_};
 ghost use Rattle.format.specs.ReadWrite.{spelt};
 ghost use Rattle.buffer.specs.Laid.{putIn};
 ghost use Rattle.locate.specs.Laws.Steps.{nameEnd};
-ghost use Rattle.plan.specs.Edit.{remove};
-ghost use Rattle.plan.specs.Edit.{Edits};
+ghost use Rattle.plan.specs.Edit.{remove, Edits};
 ghost use Rattle.plan.specs.Laws.Found.{Makes, Within};
 ghost use Rattle.remove.specs.Laws.Remove.{Second, led};
 
