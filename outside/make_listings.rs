@@ -90,7 +90,7 @@ fn counts(decks: &mut Decks) {
     }
     for n in [LISTED - 1, LISTED, LISTED + 1, LISTED + 2] {
         let many = |k: usize| rule(k % 2 == 0, 0, simple((n - 64 * k).min(64)));
-        decks.rules(format!("all_elements_{n}"), &(0..n.div_ceil(64)).map(many).collect::<Vec<_>>());
+        decks.rules(format!("all_elements_{n}"), &(0..(n + 63) / 64).map(many).collect::<Vec<_>>());
     }
     let lists = |k| rule(k % 2 == 1, 0, vec![words(&[]); 64]);
     decks.rules("all_elements_5504".into(), &(0..86).map(lists).collect::<Vec<_>>());
@@ -146,7 +146,7 @@ fn refusals(decks: &mut Decks) {
     }
     for number in NUMBERS {
         let of: Vec<&Vec<u8>> = seen.iter().map(|(_, bytes)| bytes).filter(|b| number_of(b) == Some(number)).collect();
-        for bytes in of.iter().step_by(of.len().div_ceil(OF_A_NUMBER).max(1)) {
+        for bytes in of.iter().step_by(((of.len() + OF_A_NUMBER - 1) / OF_A_NUMBER).max(1)) {
             decks.add(list(bytes).trim().to_lowercase().replace(' ', "_"), bytes.to_vec());
         }
     }
