@@ -57,6 +57,22 @@ readNumbers = numbers 1 13 60000 ∷ numbers 14 14 1 ∷ []
 abbrev pub viewNumbers : ℕ → List Numbers
 viewNumbers last = numbers 1 13 60000 ∷ numbers 16 16 last ∷ []
 
+-- "An identifier alone .. 1, 9 or 10 at 0"
+abbrev pub kindNumbers : List Numbers
+kindNumbers = exactly 1 0 ∷ exactly 9 0 ∷ exactly 10 0 ∷ []
+
+-- "Turning lone element data into a value takes an edition and answers 1 first, then as for a given element"
+abbrev pub valueNumbers : List Numbers
+valueNumbers = exactly 1 0 ∷ elementNumbers
+
+-- "Turning a value into data .. 1, then 41 or 42, then 40 at 0 .., then 43 at 16 or 32, then 20"
+abbrev pub putNumbers : List Numbers
+putNumbers = exactly 1 0 ∷ numbers 40 42 0 ∷ exactly 43 16 ∷ exactly 43 32 ∷ exactly 20 0 ∷ []
+
+-- "a lone date answers 11 at 0"
+abbrev pub momentNumbers : List Numbers
+momentNumbers = exactly 11 0 ∷ []
+
 -- ---- the edits
 
 -- each fault at its place, before other rows

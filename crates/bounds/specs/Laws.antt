@@ -6,3 +6,4 @@ pub mod Faults
 pub mod Listed
 pub mod Faulty
 pub mod Calls
+pub mod Results

@@ -9,47 +9,40 @@ use mathlib.Core.List.{List, [], _∷_}
 use lib.Dec.{leb}
 use lib.ListN.{length}
 use borrow.Author.Tests.{leb-false}
-use Rattle.format.specs.declared.Fault.{Fault}
 use Rattle.format.specs.declared.Fault.the-variants as Fault
 use Rattle.format.specs.declared.Outcome.{Outcome}
 use Rattle.format.specs.declared.Outcome.the-variants as Outcome
 use Rattle.format.specs.Fault.{numberOf, codeOf, Said}
-use Rattle.format.specs.Format.{Answer, got, refused, mapped, whole, pick, Format, Bytes}
+use Rattle.format.specs.Format.{Answer, pick, Bytes}
 use Rattle.format.specs.Laws.Format.{one}
-use Rattle.format.specs.ReadWrite.{within}
+use Rattle.buffer.specs.Laid.{put}
 use Rattle.kind.specs.declared.Product.{Product}
 use Rattle.kind.specs.declared.Edition.{Edition}
 use Rattle.kind.specs.declared.Edition.the-variants as Edition
-use Rattle.kind.specs.declared.Kind.{Kind}
-use Rattle.kind.specs.declared.Row.{Row}
-use Rattle.kind.specs.declared.Row.the-variants as Row
-use Rattle.kind.specs.Kinds.{kindSays, editionOf, rowOf, rowBy, kindOf}
+use Rattle.kind.specs.Kinds.{editionOf, kindOf}
 use Rattle.date.specs.Double.{accepted}
-use Rattle.moment.specs.declared.Moment.{Moment}
-use Rattle.moment.specs.Moment.{momentSays, SaysBy, Says}
-use Rattle.element.specs.Data.{Data, dataOf}
+use Rattle.moment.specs.Moment.{SaysBy}
+use Rattle.moment.specs.Laws.One.{said-one}
 use Rattle.value.specs.declared.Value.{Value}
-use Rattle.value.specs.declared.Value.the-variants as Value
-use Rattle.value.specs.Value.{valueSays, valueAnswer, fromData, fromKind, fromRow, fromEdition, valueOf}
-use Rattle.put.specs.Plan.{Fitted, holds, lacks, fromSpan, fromValue, isOf, fitted, write, deny, ifRoom, planData, planKind, planRow, planEdition, putting, putSays, Putting, putLeaves}
+use Rattle.value.specs.Value.{valueAnswer}
+use Rattle.put.specs.Plan.{write, deny, putting, putSays, Putting, putLeaves}
 use Rattle.rule.specs.Rule.{Rule}
 use Rattle.deck.specs.Deck.{readAs, readDeck, answered, scanned, scanSays}
 use Rattle.tables.specs.Tables.{tabled, readSays, rulesLeft, rulesAfter, elementsLeft, elementsAfter}
 use Rattle.view.specs.View.{viewSays, nameView}
 use Rattle.view.specs.Word.{wordView}
-use Rattle.view.specs.Fixed.{fixedFields, fieldsSay}
+use Rattle.view.specs.Fixed.{fieldsAnswer}
 use Rattle.plan.specs.Edit.{Edit, Plan, become, refuse, refuseGiven, planned, says, leaves, Edits}
-use Rattle.plan.specs.Given.{given, givenBy, withData}
 use Rattle.plan.specs.Handed.{Handed}
 use Rattle.start.specs.Start.{startSays, startLeaves}
 use Rattle.start.specs.Laws.Start.{start-none}
-use Rattle.bounds.specs.Laws.Data.{row-refuses}
-use Rattle.bounds.specs.Laws.Refused.{as-refused}
-use Rattle.bounds.specs.Listed.{Numbers, numbers, exactly, allowed, Lists}
-use Rattle.bounds.specs.Laws.Listed.{allowed-later}
-use Rattle.bounds.specs.Calls.{elementNumbers, checkNumbers, readNumbers, viewNumbers, editNumbers}
-use Rattle.bounds.specs.Laws.Faulty.{ElementListed, element-listed}
+use Rattle.bounds.specs.Listed.{Numbers, exactly, allowed, Lists}
+use Rattle.bounds.specs.Laws.Listed.{allowed-later, within-lists}
+use Rattle.bounds.specs.Calls.{checkNumbers, readNumbers, viewNumbers, editNumbers, kindNumbers, momentNumbers, valueNumbers, putNumbers}
 use Rattle.bounds.specs.Laws.Calls.{check-listed, pass-listed, read-listed, name-listed, word-listed, fixed-listed, edit-listed}
+use Rattle.bounds.specs.Laws.Results.{kind-listed, moment-listed, value-listed, put-listed}
+use Rattle.lent.specs.Lent.{momentWidth, lentSays, lentLeaves, Lends, LendsMoment}
+use Rattle.lent.specs.Laws.Lent.{lent-as}
 
 -- the answer and the buffer of an edit are functions of what it was called with: two outcomes that the promise allows coincide
 pub edits-coincide : (edition n : ℕ) (e : Edit) (d : List ℕ) {r q : Outcome} {x y : List ℕ} → Edits edition n e d r x → Edits edition n e d q y → (r ≡ q) × (x ≡ y)
@@ -116,7 +109,7 @@ name-refuses edition k s = name-listed edition k s
 pub word-refuses : (edition k e w : ℕ) (s : List ℕ) → Lists (viewNumbers 2) (viewSays (wordView edition k e w s))
 word-refuses edition k e w s = word-listed edition k e w s
 
-pub fields-refuse : (edition k : ℕ) (s : List ℕ) → Lists (viewNumbers 0) (fieldsSay (fixedFields edition k s))
+pub fields-refuse : (edition k : ℕ) (s : List ℕ) → Lists (viewNumbers 0) (fieldsAnswer edition k s .0)
 fields-refuse edition k s = fixed-listed edition k s
 
 -- the seven edits: 1 to 13, 15, 18 to 20, and what each judges of its own and of what it is given
@@ -133,90 +126,47 @@ start-refuses cap = go (leb 7 cap)
     go false = (refl, refl)
 
 -- "An identifier alone .. 1, 9 or 10 at 0"
-abbrev pub kindNumbers : List Numbers
-kindNumbers = exactly 1 0 ∷ exactly 9 0 ∷ exactly 10 0 ∷ []
-
 pub kind-refuses : (edition id : ℕ) → Lists kindNumbers (kindOf edition id .0)
-unfolding kindOf rowBy allowed
-kind-refuses edition id = by (editionOf edition)
-  where
-    row : (p : Product) (r : Row) → rowOf p id ≡ r → Lists kindNumbers (kindSays r .0)
-    row p (Row.Is k) e = tt
-    row p (Row.No c q) e = row-refuses (λ c q. Lists kindNumbers (Outcome.No c q)) (refl, omega arith) (refl, omega arith) p id e
-
-    by : (o : Edition) → Lists kindNumbers (rowBy o id .0)
-    by (Edition.Of p) = row p (rowOf p id) refl
-    by Edition.Unknown = (refl, refl)
+kind-refuses edition id = within-lists kindNumbers 0 (kindOf edition id .0) (kind-listed edition id)
 
 -- "a lone date answers 11 at 0"
-pub moment-refuses : (bits : ℕ) (m : Moment) → Says bits m → Lists (exactly 11 0 ∷ []) (momentSays m .0)
-unfolding Says allowed
-moment-refuses bits m = go (accepted bits) (momentSays m)
-  where
-    go : (b : Bool) (x : Said) → SaysBy b bits x → Lists (exactly 11 0 ∷ []) (x .0)
-    go true x f = rw (f .1 .1) tt
-    go false x f = rw f (refl, omega arith)
+pub moment-refuses : (bits : ℕ) (x : Said) → SaysBy (accepted bits) bits x → Lists momentNumbers (x .0)
+moment-refuses bits x f = within-lists momentNumbers 0 (x .0) (moment-listed bits x f)
 
 -- "Turning lone element data into a value takes an edition and answers 1 first, then as for a given element"
-abbrev pub valueNumbers : List Numbers
-valueNumbers = exactly 1 0 ∷ elementNumbers
-
 pub value-refuses : (edition id : ℕ) (s : List ℕ) → Bytes s → Lists valueNumbers (valueAnswer edition id s .0)
-unfolding valueOf fromKind given mapped allowed
-value-refuses edition id s b = by (editionOf edition)
-  where
-    listed : (p : Product) (c : Fault) (q : ℕ) → given p id s ≡ refused c q → Lists valueNumbers (Outcome.Given c q)
-    listed p c q e = let f = as-refused ElementListed (element-listed p id s b) e in (allowed-later (exactly 1 0) elementNumbers (numberOf c + 32) q (f .0), f .1)
-
-    read : (p : Product) (k : Kind) (a : Answer Data) → given p id s ≡ mapped (withData id) a → Lists valueNumbers (valueSays (fromData k id a) .0)
-    read p k (got x n) e = tt
-    read p k (refused c q) e = listed p c q e
-
-    row : (p : Product) (r : Row) → given p id s ≡ givenBy r id s → Lists valueNumbers (valueSays (fromRow r id s) .0)
-    row p (Row.Is k) e = read p k (whole (length s) (dataOf k .read s)) e
-    row p (Row.No c q) e = listed p c q e
-
-    by : (o : Edition) → Lists valueNumbers (valueSays (fromEdition o id s) .0)
-    by (Edition.Of p) = row p (rowOf p id) refl
-    by Edition.Unknown = (refl, refl)
+value-refuses edition id s b = within-lists valueNumbers 0 (valueAnswer edition id s .0) (value-listed edition id s b)
 
 -- "Turning a value into data .. 1, then 41 or 42, then 40 at 0 .., then 43 at 16 or 32, then 20"
-abbrev pub putNumbers : List Numbers
-putNumbers = exactly 1 0 ∷ numbers 40 42 0 ∷ exactly 43 16 ∷ exactly 43 32 ∷ exactly 20 0 ∷ []
-
-abbrev Lacks : Fitted → Type 0
-Lacks (holds d) = Unit {0}
-Lacks (lacks c q) = Lists putNumbers (Outcome.Given c q)
-
-lacks-pick : (b : Bool) (x y : Fitted) → Lacks x → Lacks y → Lacks (pick b x y)
-unfolding pick
-lacks-pick true x y f g = f
-lacks-pick false x y f g = g
-
-lacks-value : (v : Value) → Lacks (fromValue v)
-unfolding fromSpan allowed within
-lacks-value Value.Marker = tt
-lacks-value (Value.Simple n) = tt
-lacks-value (Value.Words n) = (refl, omega arith)
-lacks-value (Value.Size a b) = tt
-lacks-value (Value.Dates v) = lacks-pick _ _ _ (lacks-pick _ _ _ tt (refl, omega arith)) (refl, omega arith)
-
 pub put-refuses : (edition id : ℕ) (v : Value) (room : ℕ) → Lists putNumbers (putSays (putting edition id v room))
-unfolding putting planKind ifRoom putSays pick allowed within
-put-refuses edition id v room = by (editionOf edition)
+put-refuses edition id v room = within-lists putNumbers 40 (putSays (putting edition id v room)) (put-listed edition id v room)
+
+-- ---- a call with a table for its result: two outcomes that its promise allows coincide
+
+pub results-coincide : (width : ℕ) (t : List ℕ) (x : Said) {r q : Outcome} {a b : List ℕ} → Lends width t x r a → Lends width t x q b → (r ≡ q) × (a ≡ b)
+results-coincide width t x f g = (one (f .0) (g .0), one (f .1) (g .1))
+
+pub moments-coincide : (bits : ℕ) (t : List ℕ) {r q : Outcome} {a b : List ℕ} → LendsMoment bits t r a → LendsMoment bits t q b → (r ≡ q) × (a ≡ b)
+moments-coincide bits t f g = results-coincide momentWidth t (g .0) (lent-as momentWidth t (f .0) (f .1 .1) (said-one (accepted bits) bits (f .0) (g .0) (f .1 .0) (g .1 .0))) (g .1 .1)
+
+-- a refused one leaves it as found
+pub result-as-found : (width : ℕ) (t : List ℕ) (x : Said) → 0 < codeOf (lentSays width (length t) x) → lentLeaves width t x ≡ t
+unfolding lentSays lentLeaves pick
+result-as-found width t (Outcome.Done n, vs) h = go (leb width (length t)) h
   where
-    roomy : (b : Bool) (bs : List ℕ) → Lists putNumbers (putSays (pick b (write bs) (deny (Outcome.No Fault.Room 0))))
-    roomy true bs = tt
-    roomy false bs = (refl, refl)
+    go : (b : Bool) → 0 < codeOf (pick b (Outcome.Done n) (Outcome.No Fault.Table 0)) → pick b (put t 0 vs) t ≡ t
+    go true h = absurd (omega arith)
+    go false h = refl
+result-as-found width t (Outcome.No c q, vs) h = refl
+result-as-found width t (Outcome.Given c q, vs) h = refl
 
-    fit : (a : Format Data) (f : Fitted) → Lacks f → Lists putNumbers (putSays (planData a room f))
-    fit a (holds d) w = roomy (leb (length (a .write d)) room) (a .write d)
-    fit a (lacks c q) w = w
-
-    row : (p : Product) (r : Row) → rowOf p id ≡ r → Lists putNumbers (putSays (planRow r id v room))
-    row p (Row.Is k) e = fit (dataOf k) (fitted k id v) (lacks-pick (isOf k id v) _ _ (lacks-value v) (refl, omega arith))
-    row p (Row.No c q) e = row-refuses (λ c q. Lists putNumbers (Outcome.Given c q)) (refl, omega arith) (refl, omega arith) p id e
-
-    by : (o : Edition) → Lists putNumbers (putSays (planEdition o id v room))
-    by (Edition.Of p) = row p (rowOf p id) refl
-    by Edition.Unknown = (refl, refl)
+-- and it refuses as the call without a table does, or with 14 at 0
+pub result-refuses : (rows : List Numbers) (width room : ℕ) (x : Said) → Lists rows (x .0) → Lists (exactly 14 0 ∷ rows) (lentSays width room x)
+unfolding lentSays pick allowed
+result-refuses rows width room (Outcome.Done n, vs) f = go (leb width room)
+  where
+    go : (b : Bool) → Lists (exactly 14 0 ∷ rows) (pick b (Outcome.Done n) (Outcome.No Fault.Table 0))
+    go true = tt
+    go false = (refl, omega arith)
+result-refuses rows width room (Outcome.No c q, vs) f = (allowed-later (exactly 14 0) rows (numberOf c) q (f .0), f .1)
+result-refuses rows width room (Outcome.Given c q, vs) f = (allowed-later (exactly 14 0) rows (numberOf c + 32) q (f .0), f .1)

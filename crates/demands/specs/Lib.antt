@@ -5,5 +5,6 @@ pub mod Views
 pub mod Tables
 pub mod Demand3
 pub mod RoundTrip
+pub mod Results
 pub mod Cases
 pub mod Laws

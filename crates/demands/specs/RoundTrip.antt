@@ -35,6 +35,7 @@ use Rattle.value.specs.declared.Value.the-variants as Value
 use Rattle.value.specs.declared.Valued.{Valued}
 use Rattle.value.specs.declared.Valued.the-variants as Valued
 use Rattle.value.specs.Value.{floats, valueIn, fromData, fromKind, fromRow, fromEdition, valueOf}
+use Rattle.value.specs.Laws.Dates.{limit-back}
 use Rattle.put.specs.Plan.{afterOf, beforeOf, Fitted, holds, lacks, fromSpan, fromValue, shape, isOf, Putting, write, deny, ifRoom, planData, planKind, planRow, planEdition, putting, Puts}
 use Rattle.put.specs.Laws.Put.{formatBy, shaped, shapeOf, of-shape}
 
@@ -59,19 +60,6 @@ unwritten : {B : Type 0} {x : Putting} {o : Outcome} {bs : List ℕ} → x ≡ d
 unwritten e f = absurd (let z : _≡_ {A = ℕ} 0 1 = cc in omega arith)
 
 -- ---- data to a value and back
-
-limit-fit : (l : Limit) → limit .Fit l → (l .at < 256 ^ 8) × (accepted (l .at) ≡ true)
-unfolding limit seq pair via date judged number
-limit-fit l f = then-fit _ _ (l .at) (f .0 .1)
-
-abbrev sound : Limit → Limit
-sound l = record { set = l .set; at = toBits binary64 (ofBits binary64 (l .at)) }
-
-limit-back : (l : Limit) → limit .Fit l → (sound l ≡ l) × (accepted (toBits binary64 (ofBits binary64 (l .at))) ≡ true)
-limit-back l f =
-    let p = limit-fit l f in
-    let e = bits-back (l .at) (omega (arith, p .0)) (date-no-nan (l .at) (p .1)) in
-    (ap (λ (n : ℕ). record { set = l .set; at = n }) e, ap accepted e ∙ p .1)
 
 -- "a word list goes back as its bytes; the other values go back alone"
 abbrev pub alone : Value → Bool
@@ -136,7 +124,7 @@ value-writes-back edition id s v room bs a e h = by (editionOf edition) e
 -- what the code's types hold: numbers of 32 bits, floats of 64
 abbrev pub HandedValue : Value → Type 0
 HandedValue Value.Marker = Unit {0}
-HandedValue (Value.Simple n) = Unit {0}
+HandedValue (Value.Simple n) = n < 2 ^ 32
 HandedValue (Value.Size a b) = (a < 2 ^ 32) × (b < 2 ^ 32)
 HandedValue (Value.Dates v) = (fits binary64 (v .after) ≡ true) × (fits binary64 (v .before) ≡ true)
 HandedValue (Value.Words n) = Unit {0}

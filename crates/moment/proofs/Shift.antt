@@ -13,7 +13,7 @@ use borrow.Author.Tests.{le-leb, lt-leb}
 use Rattle.format.specs.Format.{pick}
 use Rattle.date.specs.Double.{negative, exponent, digits, scaled, size, day, bound, accepted}
 use Rattle.moment.specs.Laws.Moment.{origin-is}
-use Rattle.moment.specs.Moment.{wholeDays, dayIn}
+use Rattle.moment.specs.Moment.{origin, wholeDays, dayIn, secondIn}
 
 -- ---- a day is 2 ^ k times the weight of a digit
 day-pos : 0 < day
@@ -133,3 +133,20 @@ day-before bits w e h = rw (le-leb (2 ^ 63) bits h, origin-is, e)
 pub day-after : (bits w : ℕ) → w ≡ wholeDays bits → bits < 2 ^ 63 → 657434 + w ≡ dayIn bits
 unfolding dayIn pick
 day-after bits w e h = rw (lt-leb (2 ^ 63) bits h, origin-is, e)
+
+-- ---- what a date says is small
+
+pub second-small : (bits : ℕ) → secondIn bits < 86400
+unfolding secondIn
+second-small bits = div-lt-iff-lt-mul day-pos .1 (rw (mul-comm 86400 day) (mul-lt-mul-of-pos-right (mod-lt (size bits) day-pos) (omega arith)))
+
+pub day-small : (bits : ℕ) → accepted bits ≡ true → dayIn bits < 3615900
+unfolding dayIn pick
+day-small bits a = go (negative bits)
+  where
+    w : wholeDays bits < 2958466
+    w = whole-small bits a
+
+    go : (b : Bool) → pick b (origin - wholeDays bits) (origin + wholeDays bits) < 3615900
+    go true = omega (arith, origin-is, w)
+    go false = omega (arith, origin-is, w)

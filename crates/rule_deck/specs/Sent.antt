@@ -1,14 +1,29 @@
--- What an edit sends back over the products' door: "one 64-bit number, code plus 256 times place".
-use Prim.Native.Nat.{ℕ, _/_, _%_}
+-- What goes back over the products' door: "one 64-bit number, code plus 256 times place".
+use Prim.Native.Nat.{ℕ, _+_, _*_, _/_, _%_}
 use mathlib.Core.Path.{_≡_}
 use mathlib.Core.Bool.{Bool}
 use mathlib.Core.List.{List}
 use lib.Dec.{eqb}
-use Rattle.format.specs.Fault.{packed}
+use lib.ListN.{length}
+use Rattle.format.specs.Fault.{packed, Said}
 use Rattle.format.specs.Format.{pick}
+use Rattle.date.specs.Double.{accepted}
+use Rattle.moment.specs.Moment.{SaysBy}
+use Rattle.lent.specs.Lent.{lentSays, lentLeaves, momentWidth}
 use Rattle.rule.specs.declared.Fields.{Fields}
 use Rattle.plan.specs.Edit.{Edit, planned, says, leaves}
 use Rattle.plan.specs.Handed.{Handed}
+
+-- 256 times the major number plus the minor one: 1.0
+abbrev pub version : ℕ
+version = 256 * 1 + 0
+
+-- the promise of every call with a table for its result: the library's own, packed
+abbrev pub Hands : ℕ → List ℕ → Said → ℕ → List ℕ → Type 0
+Hands width t x r t′ = (r ≡ packed (lentSays width (length t) x)) × (t′ ≡ lentLeaves width t x)
+
+abbrev pub HandsMoment : ℕ → List ℕ → ℕ → List ℕ → Type 0
+HandsMoment bits t r t′ = (x : Said) × (SaysBy (accepted bits) bits x × Hands momentWidth t x r t′)
 
 -- a rule's fixed fields, one after the other
 abbrev pub fieldsOf : ℕ → Bool → ℕ → ℕ → ℕ → ℕ → Fields

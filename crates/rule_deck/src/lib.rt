@@ -5,14 +5,19 @@ ghost use mathlib.Core.Path.{_≡_};
 ghost use Prim.Native.Nat.{_^_, _<_};
 ghost use lib.ListN.{length};
 ghost use Rattle.format.specs.Fault.{placeOf, packed};
-ghost use Rattle.kind.specs.Kinds.{editionOf};
+ghost use Rattle.kind.specs.Kinds.{editionOf, kindOf};
 ghost use Rattle.deck.specs.Deck.{answered, readDeck};
 ghost use Rattle.tables.specs.Tables.{readSays, rulesAfter, elementsAfter};
-ghost use Rattle.view.specs.View.{viewSays, nameView};
+ghost use Rattle.view.specs.View.{viewSays, partSays, nameView};
 ghost use Rattle.view.specs.Word.{wordView};
+ghost use Rattle.view.specs.Fixed.{fieldsAnswer};
+ghost use Rattle.value.specs.Value.{valueAnswer};
+ghost use Rattle.put.specs.Plan.{putting, putSays, putLeaves};
+ghost use Rattle.lent.specs.Lent.{kindWidth, fieldsWidth, partWidth, valueWidth};
+ghost use Rattle.value_table.specs.Table.{valueFrom};
 ghost use Rattle.plan.specs.Edit.{switch, rename, remove, insert, addRule, addElement, addWord};
 ghost use Rattle.start.specs.Start.{startSays, startLeaves};
-ghost use Rattle.rule_deck.specs.Sent.{Sends, fieldsOf};
+ghost use Rattle.rule_deck.specs.Sent.{version, Hands, HandsMoment, Sends, fieldsOf};
 
 fn pack(o: Outcome) -> u64
     requires { ⌜ placeOf o < 2 ^ 48 ⌝ }
@@ -23,6 +28,14 @@ fn pack(o: Outcome) -> u64
         Outcome::No(c, p) => format::number_of(c) + 256 * (p as u64),
         Outcome::Given(c, p) => format::number_of(c) + 32 + 256 * (p as u64),
     }
+}
+
+// The version of this library.
+#[no_mangle]
+pub extern "C" fn rule_deck_version() -> u64
+    ensures { λ r. ⌜ r ≡ version ⌝ }
+{
+    0x100
 }
 
 // The deck check: the number of rules as its place, or a refusal.
@@ -62,6 +75,74 @@ pub extern "C" fn rule_deck_word(edition: u64, deck: &[u8], k: u64, e: u64, w: u
 {
     let v = view::find_word(edition, deck, k, e, w);
     pack(view::place_of(v))
+}
+
+// The row of an identifier among the kinds, and its role.
+#[no_mangle]
+pub extern "C" fn rule_deck_kind(edition: u64, identifier: u32, kind: &mut [u32]) -> u64
+    ensures { λ r. ⌜ Hands kindWidth (now (kind .entry)) (kindOf edition identifier) r (now (kind .exit)) ⌝ }
+{
+    pack(lent::kind(edition, identifier, kind))
+}
+
+// The fixed fields of rule k.
+#[no_mangle]
+pub extern "C" fn rule_deck_fields(edition: u64, deck: &[u8], k: u64, fields: &mut [u32]) -> u64
+    ensures { λ r. ⌜ Hands fieldsWidth (now (fields .entry)) (fieldsAnswer edition k (now (deck .entry))) r (now (fields .exit)) ⌝ }
+{
+    pack(lent::fields(edition, deck, k, fields))
+}
+
+// The name of rule k as a part of the deck, by its numbers.
+#[no_mangle]
+pub extern "C" fn rule_deck_name_part(edition: u64, deck: &[u8], k: u64, part: &mut [u32]) -> u64
+    ensures { λ r. ⌜ Hands partWidth (now (part .entry)) (partSays (nameView edition k (now (deck .entry)))) r (now (part .exit)) ⌝ }
+{
+    pack(lent::name_part(edition, deck, k, part))
+}
+
+// Word w of element e of rule k as a part of the deck, by its numbers.
+#[no_mangle]
+pub extern "C" fn rule_deck_word_part(
+    edition: u64,
+    deck: &[u8],
+    k: u64,
+    e: u64,
+    w: u64,
+    part: &mut [u32],
+) -> u64
+    ensures { λ r. ⌜ Hands partWidth (now (part .entry)) (partSays (wordView edition k e w (now (deck .entry)))) r (now (part .exit)) ⌝ }
+{
+    pack(lent::word_part(edition, deck, k, e, w, part))
+}
+
+// What the date of these bits says.
+#[no_mangle]
+pub extern "C" fn rule_deck_moment(bits: u64, moment: &mut [u32]) -> u64
+    ensures { λ r. ⌜ HandsMoment bits (now (moment .entry)) r (now (moment .exit)) ⌝ }
+{
+    pack(lent::moment(bits, moment))
+}
+
+// The value of lone element data.
+#[no_mangle]
+pub extern "C" fn rule_deck_value(edition: u64, identifier: u32, s: &[u8], value: &mut [u64]) -> u64
+    ensures { λ r. ⌜ Hands valueWidth (now (value .entry)) (valueAnswer edition identifier (now (s .entry))) r (now (value .exit)) ⌝ }
+{
+    pack(value_table::value(edition, identifier, s, value))
+}
+
+// A value as the data of an identifier, written at the start of a buffer.
+#[no_mangle]
+pub extern "C" fn rule_deck_put_value(
+    edition: u64,
+    identifier: u32,
+    value: &[u64],
+    buf: &mut [u8],
+) -> u64
+    ensures { λ r. ⌜ (r ≡ packed (putSays (putting edition identifier (valueFrom (now (value .entry))) (length (now (buf .entry)))))) × (now (buf .exit) ≡ putLeaves (now (buf .entry)) (putting edition identifier (valueFrom (now (value .entry))) (length (now (buf .entry))))) ⌝ }
+{
+    pack(value_table::put_value(edition, identifier, value, buf))
 }
 
 // Starts an empty deck.

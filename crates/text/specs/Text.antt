@@ -14,6 +14,10 @@ extended n = pick (eqb n 255) (fixed 2 255 Form) nothing
 unfoldable pub stringLength : Format ℕ
 stringLength = via (pair (number 1) extended) (λ p. p .0) (λ n. (n, tt)) (λ p f. refl)
 
+-- the form of a String of so many units: 0 short, 1 long
+unfoldable pub formOf : ℕ → ℕ
+formOf n = pick (eqb n 255) 1 0
+
 -- "and that many 16-bit units", which "are any 16-bit values"; a fault anywhere in it "answers its start"
 unfoldable pub string : Format (List ℕ)
 string = atStart (listed stringLength (number 2))

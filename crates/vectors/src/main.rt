@@ -1,17 +1,9 @@
 // Runs the vectors on standard input over the library and says which do not agree: vectors/README.md has their form.
 use format::Outcome;
 use format::Read;
-use kind::Kind;
-use kind::Role;
-use kind::Row;
 use libc::STDIN_FILENO;
 use libc::STDOUT_FILENO;
-use moment::Moment;
 use rule::Fields;
-use value::Span;
-use value::Value;
-use value::Valued;
-use view::Fielded;
 ghost use mathlib.Core.Path.{_≡_};
 ghost use Prim.Native.Nat.{_≤_, _<_, _^_};
 ghost use lib.ListN.{length};
@@ -186,19 +178,25 @@ fn unpack_if(there: bool, v: &[u8], at: usize, base: &[u8], out: &mut [u8]) -> U
 
 // What a call takes.
 
-fn numbers_of(call: u64) -> usize
-    ensures { λ r. ⌜ r ≤ 256 ⌝ }
-{
+fn numbers_of(call: u64) -> u64 {
     match call {
         0 | 10 => 0,
-        4 | 5 => 1,
-        1 | 2 | 7 | 9 | 17 => 2,
-        6 | 12 | 13 | 16 => 3,
+        5 => 1,
+        4 | 7 | 17 => 2,
+        1 | 2 | 6 | 9 | 12 | 13 | 16 | 18 => 3,
         8 | 11 | 14 => 4,
-        3 => 7,
+        19 => 5,
         15 => 9,
         _ => 256,
     }
+}
+
+// Whether a call takes n numbers; call 3 has a table's among them.
+fn takes(call: u64, n: u64) -> bool {
+    if call == 3 {
+        return 2 <= n;
+    }
+    n == numbers_of(call)
 }
 
 fn strings_of(call: u64) -> u64 {
@@ -214,8 +212,8 @@ fn is_flag(n: u64) -> bool {
     n <= 1
 }
 
-fn is_float(bits: u64) -> bool {
-    bits % 0x8000_0000_0000_0000 <= 0x7FF0_0000_0000_0000
+fn is_room(n: u64) -> bool {
+    n <= 1024
 }
 
 // Whether numbers i to j of a vector are numbers of 32 bits.
@@ -232,24 +230,25 @@ fn fit(v: &[u8], i: usize, j: usize) -> bool
     true
 }
 
-// Whether the numbers of call 3 are a value.
-fn value_fits(v: &[u8]) -> bool {
-    let case = number(v, 2);
-    if case == 3 {
-        return is_flag(number(v, 3))
-            && is_float(number(v, 4))
-            && is_flag(number(v, 5))
-            && is_float(number(v, 6));
+// Which of the numbers says how many a table has.
+fn room_at(call: u64) -> usize
+    ensures { λ r. ⌜ r < 256 ⌝ }
+{
+    match call {
+        4 => 1,
+        19 => 4,
+        _ => 2,
     }
-    case <= 4 && fit(v, 3, 6)
 }
 
 // Whether the numbers of a vector are what its call can be given.
 fn fits(v: &[u8]) -> bool {
-    match byte(v, 0) {
-        1 | 2 => fit(v, 1, 1),
-        3 => fit(v, 1, 1) && value_fits(v),
-        6 => number(v, 1) <= 1024 && number(v, 2) <= 1024,
+    let call = byte(v, 0);
+    match call {
+        1 | 2 => fit(v, 1, 1) && is_room(number(v, room_at(call))),
+        3 => fit(v, 1, 1),
+        4 | 9 | 18 | 19 => is_room(number(v, room_at(call))),
+        6 => is_room(number(v, 1)) && is_room(number(v, 2)),
         11 => is_flag(number(v, 3)),
         15 => fit(v, 2, 8) && is_flag(number(v, 3)),
         16 => fit(v, 2, 2),
@@ -287,104 +286,6 @@ fn told(o: Outcome, count: usize) -> Said
     }
 }
 
-// Number i of an effect of numbers of eight bytes.
-fn put_eight(got: &mut [u8], i: usize, n: u64)
-    requires { ⌜ i < 256 ⌝ }
-{
-    buffer::put_number(got, 8 * i, 8, n);
-}
-
-fn put_five(got: &mut [u8], a: u64, b: u64, c: u64, d: u64, e: u64) {
-    put_eight(got, 0, a);
-    put_eight(got, 1, b);
-    put_eight(got, 2, c);
-    put_eight(got, 3, d);
-    put_eight(got, 4, e);
-}
-
-fn bit(yes: bool) -> u64 {
-    if yes { 1 } else { 0 }
-}
-
-fn row_number(kind: Kind) -> u64 {
-    match kind {
-        Kind::Marker => 0,
-        Kind::Simple(role) => match role {
-            Role::Condition => 1,
-            Role::Action => 2,
-            Role::Exception => 3,
-        },
-        Kind::WordList => 4,
-        Kind::Size(_) => 5,
-        Kind::Dates(_) => 6,
-    }
-}
-
-fn call_row(edition: u64, identifier: u32, got: &mut [u8]) -> Said
-    ensures { λ r. ⌜ r .count ≤ 65536 ⌝ }
-{
-    let row = row::kind_of(edition, identifier);
-    match row {
-        Row::Is(kind) => {
-            put_eight(got, 0, row_number(kind));
-            told(Outcome::Done(0), 1)
-        }
-        Row::No(c, p) => told(Outcome::No(c, p), 0),
-    }
-}
-
-// The bits of a date; those of an infinity, which no value has, for what is none.
-fn bits_of(days: f64) -> u64 {
-    if date::in_range(days) {
-        return f64::to_bits(days);
-    }
-    0x7FF0_0000_0000_0000
-}
-
-fn put_value(got: &mut [u8], x: Value) {
-    match x {
-        Value::Marker => put_five(got, 0, 0, 0, 0, 0),
-        Value::Simple(n) => put_five(got, 1, n as u64, 0, 0, 0),
-        Value::Size(a, b) => put_five(got, 2, a as u64, b as u64, 0, 0),
-        Value::Dates(s) => put_five(
-            got,
-            3,
-            bit(s.starts),
-            bits_of(s.after),
-            bit(s.ends),
-            bits_of(s.before),
-        ),
-        Value::Words(n) => put_five(got, 4, n as u64, 0, 0, 0),
-    }
-}
-
-fn call_value(edition: u64, identifier: u32, s: &[u8], got: &mut [u8]) -> Said
-    ensures { λ r. ⌜ r .count ≤ 65536 ⌝ }
-{
-    let v = value::value_of(edition, identifier, s);
-    match v {
-        Valued::Is(x) => {
-            put_value(got, x);
-            told(Outcome::Done(0), 40)
-        }
-        Valued::No(c, p) => told(Outcome::No(c, p), 0),
-        Valued::Given(c, p) => told(Outcome::Given(c, p), 0),
-    }
-}
-
-fn call_date(bits: u64, got: &mut [u8]) -> Said
-    ensures { λ r. ⌜ r .count ≤ 65536 ⌝ }
-{
-    let m = moment::moment_of(bits);
-    match m {
-        Moment::At(c, second) => {
-            put_five(got, c.year, c.month, c.day, second, 0);
-            told(Outcome::Done(0), 32)
-        }
-        Moment::No(c, p) => told(Outcome::No(c, p), 0),
-    }
-}
-
 fn wide32(n: u32) -> u64 {
     n as u64
 }
@@ -400,6 +301,79 @@ fn put_table(got: &mut [u8], at: usize, table: &[u32])
     }
 }
 
+fn put_wide_table(got: &mut [u8], table: &[u64])
+    requires { ⌜ length (now table) ≤ 1024 ⌝ }
+{
+    let mut i = 0;
+    while i < table.len() {
+        buffer::put_number(got, 8 * i, 8, table[i]);
+        i += 1;
+    }
+}
+
+// The length of a lent table. A vector that asks for more than 1,024 is malformed.
+fn table_length(n: u64) -> usize
+    ensures { λ r. ⌜ r ≤ 1024 ⌝ }
+{
+    if n < 1024 {
+        return n as usize;
+    }
+    1024
+}
+
+fn room(v: &[u8]) -> usize
+    ensures { λ r. ⌜ r ≤ 1024 ⌝ }
+{
+    table_length(number(v, room_at(byte(v, 0))))
+}
+
+fn fill(v: &[u8], s: &[u8], table: &mut [u32]) -> Outcome {
+    let edition = number(v, 0);
+    let k = number(v, 1);
+    match byte(v, 0) {
+        1 => lent::kind(edition, narrow(k), table),
+        4 => lent::moment(edition, table),
+        9 => lent::fields(edition, s, k, table),
+        18 => lent::name_part(edition, s, k, table),
+        _ => lent::word_part(edition, s, k, number(v, 2), number(v, 3), table),
+    }
+}
+
+fn fill_into(v: &[u8], s: &[u8], table: &mut [u32], got: &mut [u8]) -> Outcome
+    requires { ⌜ length (now table) ≤ 1024 ⌝ }
+{
+    let o = fill(v, s, table);
+    put_table(got, 0, table);
+    o
+}
+
+// The calls that fill one table of numbers of 32 bits.
+fn call_fill(v: &[u8], s: &[u8], got: &mut [u8]) -> Said
+    ensures { λ r. ⌜ r .count ≤ 65536 ⌝ }
+{
+    let mut table = [0xA5A5_A5A5u32; 1024];
+    let m = room(v);
+    let o = fill_into(v, s, &mut table[..m], got);
+    told(o, 4 * m)
+}
+
+fn value_into(v: &[u8], s: &[u8], table: &mut [u64], got: &mut [u8]) -> Outcome
+    requires { ⌜ length (now table) ≤ 1024 ⌝ }
+{
+    let o = value_table::value(number(v, 0), narrow(number(v, 1)), s, table);
+    put_wide_table(got, table);
+    o
+}
+
+fn call_value(v: &[u8], s: &[u8], got: &mut [u8]) -> Said
+    ensures { λ r. ⌜ r .count ≤ 65536 ⌝ }
+{
+    let mut table = [0xA5A5_A5A5_A5A5_A5A5u64; 1024];
+    let m = room(v);
+    let o = value_into(v, s, &mut table[..m], got);
+    told(o, 8 * m)
+}
+
 fn read_into(
     edition: u64,
     s: &[u8],
@@ -413,16 +387,6 @@ fn read_into(
     put_table(got, 0, rules);
     put_table(got, 4 * rules.len(), elements);
     o
-}
-
-// The length of a lent table. A vector that asks for more than 1,024 is malformed.
-fn table_length(n: u64) -> usize
-    ensures { λ r. ⌜ r ≤ 1024 ⌝ }
-{
-    if n < 1024 {
-        return n as usize;
-    }
-    1024
 }
 
 fn call_read(edition: u64, s: &[u8], m: usize, n: usize, got: &mut [u8]) -> Said
@@ -445,28 +409,7 @@ fn call_view(o: Outcome, part: &[u8], got: &mut [u8]) -> Said
     told(o, part.len())
 }
 
-fn call_fixed(edition: u64, s: &[u8], k: u64, got: &mut [u8]) -> Said
-    ensures { λ r. ⌜ r .count ≤ 65536 ⌝ }
-{
-    let v = view::fixed(edition, s, k);
-    match v {
-        Fielded::Is(f) => {
-            put_five(
-                got,
-                f.signature as u64,
-                bit(f.on),
-                f.unknown2 as u64,
-                f.unknown3 as u64,
-                f.unknown4 as u64,
-            );
-            put_eight(got, 5, f.unknown5 as u64);
-            told(Outcome::Done(0), 48)
-        }
-        Fielded::No(c, p) => told(Outcome::No(c, p), 0),
-    }
-}
-
-// The calls that read a deck.
+// The calls that read a deck, but those that fill one table.
 fn call_deck(v: &[u8], s: &[u8], got: &mut [u8]) -> Said
     ensures { λ r. ⌜ r .count ≤ 65536 ⌝ }
 {
@@ -482,40 +425,47 @@ fn call_deck(v: &[u8], s: &[u8], got: &mut [u8]) -> Said
             view::name(edition, s, k),
             got,
         ),
-        8 => call_view(
+        _ => call_view(
             view::word_place(edition, s, k, e, w),
             view::word(edition, s, k, e, w),
             got,
         ),
-        _ => call_fixed(edition, s, k, got),
     }
 }
 
-// The float of these bits. A vector with a not-a-number in its place is malformed.
-fn float_of(bits: u64) -> f64 {
-    if bits % 0x8000_0000_0000_0000 > 0x7FF0_0000_0000_0000 {
-        return 0.0;
-    }
-    f64::from_bits(bits)
-}
-
-fn span_in(v: &[u8]) -> Span {
-    Span {
-        starts: number(v, 3) == 1,
-        ends: number(v, 5) == 1,
-        after: float_of(number(v, 4)),
-        before: float_of(number(v, 6)),
+// The numbers of a vector from the third on.
+fn numbers_in(v: &[u8], table: &mut [u64])
+    requires { ⌜ length (now table) ≤ 253 ⌝ }
+{
+    let mut i = 0;
+    while i < table.len() {
+        table[i] = number(v, 2 + i);
+        i += 1;
     }
 }
 
-fn value_in(v: &[u8]) -> Value {
-    match number(v, 2) {
-        0 => Value::Marker,
-        1 => Value::Simple(narrow(number(v, 3))),
-        2 => Value::Size(narrow(number(v, 3)), narrow(number(v, 4))),
-        3 => Value::Dates(span_in(v)),
-        _ => Value::Words(narrow(number(v, 3))),
+fn put_given(v: &[u8], table: &mut [u64], buf: &mut [u8]) -> Outcome
+    requires { ⌜ length (now table) ≤ 253 ⌝ }
+{
+    numbers_in(v, table);
+    value_table::put_value(number(v, 0), narrow(number(v, 1)), table, buf)
+}
+
+// How many they are.
+fn given_count(v: &[u8]) -> usize
+    ensures { λ r. ⌜ r ≤ 253 ⌝ }
+{
+    let n = byte(v, 1);
+    if n < 2 {
+        return 0;
     }
+    (n - 2) as usize
+}
+
+fn put_value(v: &[u8], buf: &mut [u8]) -> Outcome {
+    let mut table = [0u64; 253];
+    let n = given_count(v);
+    put_given(v, &mut table[..n], buf)
 }
 
 fn fields_in(v: &[u8]) -> Fields {
@@ -553,7 +503,7 @@ fn edit(v: &[u8], buf: &mut [u8], second: &[u8], third: &[u8]) -> Outcome {
     let n = number(v, 1) as usize;
     let k = number(v, 2);
     match byte(v, 0) {
-        3 => put::put_value(edition, narrow(number(v, 1)), value_in(v), buf),
+        3 => put_value(v, buf),
         10 => start::start(buf),
         11 => change::switch(edition, buf, n, k, number(v, 3) == 1),
         12 => change::rename(edition, buf, n, k, second),
@@ -581,14 +531,11 @@ fn run(v: &[u8], given: &[u8], second: &[u8], third: &[u8], got: &mut [u8]) -> S
     requires { ⌜ (length (now given) ≤ 65536) × (length (now given) ≤ length (now got)) ⌝ }
     ensures { λ r. ⌜ r .count ≤ 65536 ⌝ }
 {
-    let edition = number(v, 0);
-    let identifier = narrow(number(v, 1));
     match byte(v, 0) {
         0 => told(Outcome::Done(0), 0),
-        1 => call_row(edition, identifier, got),
-        2 => call_value(edition, identifier, given, got),
-        4 => call_date(edition, got),
-        5..=9 => call_deck(v, given, got),
+        1 | 4 | 9 | 18 | 19 => call_fill(v, given, got),
+        2 => call_value(v, given, got),
+        5..=8 => call_deck(v, given, got),
         _ => call_edit(v, given, second, third, got),
     }
 }
@@ -654,10 +601,10 @@ fn with_strings(v: &[u8], at: usize, n: u64, base: &[u8]) -> Ran
 
 fn vector(v: &[u8], base: &[u8]) -> Ran {
     let call = byte(v, 0);
-    let m = numbers_of(call);
+    let m = byte(v, 1);
     let n = strings_of(call);
-    let at = 2 + 8 * m;
-    if byte(v, 1) as usize == m && byte(v, at) == n && fits(v) {
+    let at = (2 + 8 * m) as usize;
+    if takes(call, m) && byte(v, at) == n && fits(v) {
         return with_strings(v, at + 1, n, base);
     }
     Ran::Malformed

@@ -1,8 +1,9 @@
 -- The fixed fields of a rule: document 01, "Tables and views".
 use Prim.Native.Nat.{ℕ}
-use mathlib.Core.List.{List}
-use Rattle.format.specs.declared.Outcome.{Outcome}
+use mathlib.Core.List.{List, [], _∷_}
 use Rattle.format.specs.declared.Outcome.the-variants as Outcome
+use Rattle.format.specs.Fault.{Said}
+use Rattle.format.specs.ReadWrite.{bit}
 use Rattle.rule.specs.Rule.{Rule}
 use Rattle.view.specs.Asked.{asked}
 use Rattle.rule.specs.declared.Fields.{Fields}
@@ -19,11 +20,14 @@ fixedAt at r = Is (fixedOf r)
 unfoldable pub fixedFields : ℕ → ℕ → List ℕ → Fielded
 fixedFields edition k s = asked No (λ p. fixedAt) edition k s
 
--- the answer as document 01 has it
-abbrev pub fieldsSay : Fielded → Outcome
-fieldsSay (Is f) = Outcome.Done 0
-fieldsSay (No c q) = Outcome.No c q
+-- by their numbers, on as 1 and off as 0
+abbrev pub fieldsValues : Fields → List ℕ
+fieldsValues f = f .signature ∷ bit (f .on) ∷ f .unknown2 ∷ f .unknown3 ∷ f .unknown4 ∷ f .unknown5 ∷ []
 
--- "the read's refusals without 14, then 16"; where it is accepted, "otherwise 0"
-abbrev pub fieldsAnswer : ℕ → ℕ → List ℕ → Outcome
-fieldsAnswer edition k s = asked Outcome.No (λ p at r. Outcome.Done 0) edition k s
+-- the answer as document 01 has it: "the read's refusals without 14, then 16"; where it is accepted, "otherwise 0"
+abbrev pub fieldsSay : Fielded → Said
+fieldsSay (Is f) = (Outcome.Done 0, fieldsValues f)
+fieldsSay (No c q) = (Outcome.No c q, [])
+
+abbrev pub fieldsAnswer : ℕ → ℕ → List ℕ → Said
+fieldsAnswer edition k s = fieldsSay (fixedFields edition k s)

@@ -1,10 +1,12 @@
 -- Views, and the view of a name: document 01, "Tables and views".
-use Prim.Native.Nat.{ℕ, _+_, _*_}
+use Prim.Native.Nat.{ℕ, _+_, _*_, _/_}
 use mathlib.Core.Path.{_≡_}
-use mathlib.Core.List.{List, []}
+use mathlib.Core.List.{List, [], _∷_}
 use lib.ListN.{length, take, drop}
 use Rattle.format.specs.declared.Outcome.{Outcome}
 use Rattle.format.specs.declared.Outcome.the-variants as Outcome
+use Rattle.format.specs.Fault.{Said}
+use Rattle.text.specs.Text.{formOf}
 use Rattle.rule.specs.Rule.{Rule}
 use Rattle.rule.specs.Places.{unitsAt}
 use Rattle.view.specs.Asked.{asked}
@@ -35,3 +37,8 @@ PartOf v xs at ys from = (ys ≡ shown v xs) × (from ≡ (at .0, shownFrom v + 
 abbrev pub viewSays : View → Outcome
 viewSays (At a n) = Outcome.Done a
 viewSays (No c q) = Outcome.No c q
+
+-- a view by its numbers: its first byte, how many bytes it is, and the form of the String that has these units
+abbrev pub partSays : View → Said
+partSays (At a n) = (Outcome.Done 0, a ∷ n ∷ formOf (n / 2) ∷ [])
+partSays (No c q) = (Outcome.No c q, [])

@@ -35,7 +35,7 @@ use Rattle.view.specs.Asked.{asked, askedBy, askedOf, askedFirst}
 use Rattle.view.specs.View.{nameAt, nameView, viewSays}
 use Rattle.view.specs.Word.{wordAt, ruleWord, wordView}
 use Rattle.view.specs.Laws.Word.{elementWord}
-use Rattle.view.specs.Fixed.{fixedAt, fixedFields, fieldsSay}
+use Rattle.view.specs.Fixed.{fixedAt, fixedFields, fieldsSay, fieldsAnswer}
 use Rattle.bounds.specs.Laws.Refused.{Only, NotLarge, Each, refused-as, as-refused, OfGift, only-planned}
 use Rattle.bounds.specs.Calls.{judges, owns, Gift, nothing, aDeck, anElement, givenTo, checkNumbers, readNumbers, viewNumbers, eachExactly, giftNumbers, laterNumbers, editNumbers}
 use Rattle.bounds.specs.Laws.Places.{BytesOf, given-bytes}
@@ -122,9 +122,9 @@ word-listed edition k e w s = asked-listed View.No (ruleWord k e w) 2 (Viewed 2)
     element [] at = absent-listed 2 1 (omega arith) (omega arith)
     element (x ∷ xs) at = worded (drop w (wordsOf (x .1))) _
 
-pub fixed-listed : (edition k : ℕ) (s : List ℕ) → Lists (viewNumbers 0) (fieldsSay (fixedFields edition k s))
+pub fixed-listed : (edition k : ℕ) (s : List ℕ) → Lists (viewNumbers 0) (fieldsAnswer edition k s .0)
 unfolding fixedFields
-fixed-listed edition k s = asked-listed Fielded.No (λ p. fixedAt) 0 (λ v. Lists (viewNumbers 0) (fieldsSay v)) (λ c q f. f) (λ p at r. tt) edition k s
+fixed-listed edition k s = asked-listed Fielded.No (λ p. fixedAt) 0 (λ v. Lists (viewNumbers 0) (fieldsSay v .0)) (λ c q f. f) (λ p at r. tt) edition k s
 
 -- ---- the edits
 

@@ -23,6 +23,7 @@ use Rattle.element.specs.Element.{Element}
 use Rattle.rule.specs.Rule.{Rule, elementsIn}
 use Rattle.deck.specs.Deck.{readAs, readBy, readDeck, answered}
 use Rattle.deck.specs.Laws.Deck.{place-small, read-writes-back}
+use Rattle.deck.specs.Written.{startOf}
 use Rattle.plan.specs.Given.{given}
 use Rattle.plan.specs.Edit.{Edit, switch, rename, remove, insert, addRule, addElement, addWord, Plan, become, refuse, refuseGiven, planned, says}
 use Rattle.plan.specs.Handed.{Handed}
@@ -105,33 +106,58 @@ abbrev Few : View → Type 0
 Few (At a n) = Unit {0}
 Few (No c q) = q ≤ 2
 
-view-small : (f : Product → ℕ → Rule → View) (edition k : ℕ) (s : List ℕ) → ((p : Product) (at : ℕ) (r : Rule) → Few (f p at r)) → Bytes s → Inside (asked No f edition k s) (length s) → placeOf (viewSays (asked No f edition k s)) ≤ 60000
+view-small : (f : Product → ℕ → Rule → View) (edition k : ℕ) (s : List ℕ) → ((p : Product) (at : ℕ) (r : Rule) → Few (f p at r)) → Bytes s → Inside (asked No f edition k s) 60000 → placeOf (viewSays (asked No f edition k s)) ≤ 60000
 unfolding asked
 view-small f edition k s g b = by (editionOf edition) refl
   where
-    at-rule : (v : View) → Few v → length s ≤ 60000 → Inside v (length s) → placeOf (viewSays v) ≤ 60000
-    at-rule (At a n) w l i = omega arith
-    at-rule (No c q) w l i = omega arith
+    at-rule : (v : View) → Few v → Inside v 60000 → placeOf (viewSays v) ≤ 60000
+    at-rule (At a n) w i = omega arith
+    at-rule (No c q) w i = omega arith
 
-    first : (p : Product) (at : ℕ) (rs : List Rule) → length s ≤ 60000 → Inside (askedFirst No (f p) at rs) (length s) → placeOf (viewSays (askedFirst No (f p) at rs)) ≤ 60000
-    first p at [] l i = omega arith
-    first p at (r ∷ rs) l i = at-rule (f p at r) (g p at r) l i
+    first : (p : Product) (at : ℕ) (rs : List Rule) → Inside (askedFirst No (f p) at rs) 60000 → placeOf (viewSays (askedFirst No (f p) at rs)) ≤ 60000
+    first p at [] i = omega arith
+    first p at (r ∷ rs) i = at-rule (f p at r) (g p at r) i
 
-    read : (p : Product) (a : Answer (List Rule)) → editionOf edition ≡ Edition.Of p → readAs p s ≡ a → placeOf (answered a) ≤ 60000 → Inside (askedOf No f k p a) (length s) → placeOf (viewSays (askedOf No f k p a)) ≤ 60000
-    read p (got rs m) e h w i = first p _ (drop k rs) (read-writes-back p s rs m b h .short) i
-    read p (refused c q) e h w i = w
+    read : (p : Product) (a : Answer (List Rule)) → placeOf (answered a) ≤ 60000 → Inside (askedOf No f k p a) 60000 → placeOf (viewSays (askedOf No f k p a)) ≤ 60000
+    read p (got rs m) w i = first p (startOf rs k) (drop k rs) i
+    read p (refused c q) w i = w
 
-    by : (o : Edition) → editionOf edition ≡ o → Inside (askedBy No f k o s) (length s) → placeOf (viewSays (askedBy No f k o s)) ≤ 60000
-    by (Edition.Of p) e i = read p (readAs p s) e refl (read-small edition p s e b) i
+    by : (o : Edition) → editionOf edition ≡ o → Inside (askedBy No f k o s) 60000 → placeOf (viewSays (askedBy No f k o s)) ≤ 60000
+    by (Edition.Of p) e i = read p (readAs p s) (read-small edition p s e b) i
     by Edition.Unknown e i = omega arith
+
+-- a view that was found lies in the first 60,000 bytes
+view-short : (f : Product → ℕ → Rule → View) (edition k : ℕ) (s : List ℕ) → Bytes s → Inside (asked No f edition k s) (length s) → Inside (asked No f edition k s) 60000
+unfolding asked
+view-short f edition k s b = by (editionOf edition)
+  where
+    at-rule : (v : View) → length s ≤ 60000 → Inside v (length s) → Inside v 60000
+    at-rule (At a n) l i = omega arith
+    at-rule (No c q) l i = tt
+
+    read : (p : Product) (a : Answer (List Rule)) → readAs p s ≡ a → Inside (askedOf No f k p a) (length s) → Inside (askedOf No f k p a) 60000
+    read p (got rs m) h i = at-rule (askedFirst No (f p) (startOf rs k) (drop k rs)) (read-writes-back p s rs m b h .short) i
+    read p (refused c q) h i = tt
+
+    by : (o : Edition) → Inside (askedBy No f k o s) (length s) → Inside (askedBy No f k o s) 60000
+    by (Edition.Of p) i = read p (readAs p s) refl i
+    by Edition.Unknown i = tt
+
+pub name-short : (edition k : ℕ) (s : List ℕ) {v : View} → Bytes s → v ≡ nameView edition k s → Inside v (length s) → Inside v 60000
+unfolding nameView
+name-short edition k s b e i = rw e (view-short (λ p. nameAt) edition k s b (rw e at i))
+
+pub word-short : (edition k e w : ℕ) (s : List ℕ) {v : View} → Bytes s → v ≡ wordView edition k e w s → Inside v (length s) → Inside v 60000
+unfolding wordView
+word-short edition k e w s b h i = rw h (view-short (ruleWord k e w) edition k s b (rw h at i))
 
 pub name-small : (edition k : ℕ) (s : List ℕ) → Bytes s → Inside (nameView edition k s) (length s) → placeOf (viewSays (nameView edition k s)) ≤ 60000
 unfolding nameView
-name-small edition k s b i = view-small (λ p. nameAt) edition k s (λ p at r. tt) b i
+name-small edition k s b i = view-small (λ p. nameAt) edition k s (λ p at r. tt) b (view-short (λ p. nameAt) edition k s b i)
 
 pub word-small : (edition k e w : ℕ) (s : List ℕ) → Bytes s → Inside (wordView edition k e w s) (length s) → placeOf (viewSays (wordView edition k e w s)) ≤ 60000
 unfolding wordView
-word-small edition k e w s b i = view-small (ruleWord k e w) edition k s (λ p at r. element p (drop e (r .elements)) _) b i
+word-small edition k e w s b i = view-small (ruleWord k e w) edition k s (λ p at r. element p (drop e (r .elements)) _) b (view-short (ruleWord k e w) edition k s b i)
   where
     worded : (ws : List (List ℕ)) (at : ℕ) → Few (wordAt at ws)
     worded [] at = omega arith

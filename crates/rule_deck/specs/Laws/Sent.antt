@@ -5,10 +5,11 @@ use mathlib.Core.Path.{_≡_, ap, _∙_}
 use mathlib.Core.Bool.{Bool, true, false}
 use mathlib.Core.List.{List}
 use lib.Dec.{leb}
+use lib.ListN.{length}
 use Rattle.format.specs.declared.Fault.the-variants as Fault
 use Rattle.format.specs.declared.Outcome.{Outcome}
 use Rattle.format.specs.declared.Outcome.the-variants as Outcome
-use Rattle.format.specs.Fault.{placeOf, packed}
+use Rattle.format.specs.Fault.{placeOf, packed, Said}
 use Rattle.format.specs.Format.{Bytes, pick}
 use Rattle.plan.specs.Edit.{Edit, Edits}
 use Rattle.plan.specs.Handed.{Handed}
@@ -17,7 +18,9 @@ use Rattle.view.specs.declared.View.{View}
 use Rattle.view.specs.Laws.View.{Inside}
 use Rattle.view.specs.View.{viewSays}
 use Rattle.bounds.specs.Laws.Places.{plan-small}
-use Rattle.rule_deck.specs.Sent.{Sends}
+use Rattle.lent.specs.Lent.{Lends}
+use Rattle.lent.specs.Laws.Lent.{lent-place}
+use Rattle.rule_deck.specs.Sent.{Hands, Sends}
 
 module _ (edition n : ℕ) (e : Edit) (d : List ℕ) {o : Outcome} {d′ : List ℕ} where
   -- its place can be packed
@@ -45,3 +48,11 @@ module _ {v w : View} {o : Outcome} where
 
   pub view-sent : {r : ℕ} → v ≡ w → o ≡ viewSays v → r ≡ packed o → r ≡ packed (viewSays w)
   view-sent e h g = g ∙ ap packed (h ∙ ap viewSays e)
+
+-- a result in a lent table, packed
+module _ (width : ℕ) (t : List ℕ) (x : Said) {o : Outcome} {t′ : List ℕ} where
+  pub result-fits : Lends width t x o t′ → placeOf (x .0) ≤ 60000 → placeOf o < 2 ^ 48
+  result-fits f h = omega (arith, ap placeOf (f .0), lent-place width (length t) x h)
+
+  pub result-sent : {r : ℕ} → Lends width t x o t′ → r ≡ packed o → Hands width t x r t′
+  result-sent f g = (g ∙ ap packed (f .0), f .1)

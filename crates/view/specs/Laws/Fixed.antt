@@ -6,14 +6,12 @@ use mathlib.Core.Path.{_≡_, refl, ap, _∙_}
 use mathlib.Core.Bool.{Bool}
 use mathlib.Core.List.{List, [], _∷_}
 use lib.Dec.{eqb}
-use lib.ListN.{drop}
 use Rattle.format.specs.declared.Fault.{Fault}
 use Rattle.format.specs.declared.Fault.the-variants as Fault
 use Rattle.format.specs.declared.Outcome.{Outcome}
 use Rattle.format.specs.declared.Outcome.the-variants as Outcome
 use Rattle.format.specs.declared.Read.{Read}
 use Rattle.format.specs.declared.Read.the-variants as Read
-use Rattle.format.specs.Format.{Answer, got, refused}
 use Rattle.format.specs.ReadWrite.{bit}
 use Rattle.format.specs.Laws.ReadWrite.{length-spelt, eqb-bit}
 use Rattle.format.specs.Combinators.{number}
@@ -21,15 +19,9 @@ use Rattle.format.specs.Laws.Seen.{seen, itself}
 use Rattle.format.specs.Laws.Written.{Held}
 use Rattle.format.specs.Laws.Back.{Where, back-got, back-no}
 use Rattle.kind.specs.declared.Product.{Product}
-use Rattle.kind.specs.declared.Edition.{Edition}
-use Rattle.kind.specs.declared.Edition.the-variants as Edition
-use Rattle.kind.specs.Kinds.{editionOf}
 use Rattle.rule.specs.Rule.{Rule}
 use Rattle.rule.specs.Laws.Places.{rule-parts}
-use Rattle.deck.specs.Deck.{readAs}
-use Rattle.deck.specs.Written.{startOf}
 use Rattle.locate.specs.Laws.Steps.{nameRead, name-end, name-got, name-never, Reached}
-use Rattle.view.specs.Asked.{asked, askedBy, askedOf, askedFirst}
 use Rattle.view.specs.Laws.Asked.{Tells, finds, finds-never}
 use Rattle.view.specs.declared.Fielded.{Fielded}
 use Rattle.view.specs.declared.Fielded.the-variants.{Is, No}
@@ -42,20 +34,7 @@ noFields (Outcome.No c q) = No c q
 noFields (Outcome.Given c q) = No c q
 
 pub fields-say : (edition k : ℕ) (s : List ℕ) {v : Fielded} → v ≡ fixedFields edition k s → (v ≡ fixedFields edition k s) × (fieldsSay v ≡ fieldsAnswer edition k s)
-unfolding fixedFields asked
-fields-say edition k s e = (e, ap fieldsSay e ∙ by (editionOf edition))
-  where
-    first : (at : ℕ) (rs : List Rule) → fieldsSay (askedFirst No fixedAt at rs) ≡ askedFirst Outcome.No (λ at r. Outcome.Done 0) at rs
-    first at [] = refl
-    first at (r ∷ rs) = refl
-
-    read : (p : Product) (a : Answer (List Rule)) → fieldsSay (askedOf No (λ p. fixedAt) k p a) ≡ askedOf Outcome.No (λ p at r. Outcome.Done 0) k p a
-    read p (got rs n) = first (startOf rs k) (drop k rs)
-    read p (refused c q) = refl
-
-    by : (o : Edition) → fieldsSay (askedBy No (λ p. fixedAt) k o s) ≡ askedBy Outcome.No (λ p at r. Outcome.Done 0) k o s
-    by (Edition.Of p) = read p (readAs p s)
-    by Edition.Unknown = refl
+fields-say edition k s e = (e, ap fieldsSay e)
 
 -- ---- as the code finds it
 
