@@ -15,6 +15,8 @@ mod limit_cases;
 mod pack;
 #[path = "vectors/parts.rs"]
 mod parts;
+#[path = "vectors/value_cases.rs"]
+mod value_cases;
 
 use file::File;
 
@@ -37,9 +39,11 @@ fn files() -> Vec<File> {
     vec![
         cases::all_identifiers(),
         cases::all_dates(),
-        cases::all_values(),
+        value_cases::all_values(),
+        value_cases::all_puts(),
         cases::all_checks(),
         cases::all_tables(),
+        cases::all_views(),
         edit_cases::all_edits(),
         edit_cases::all_given(),
         edit_cases::all_orders(),

@@ -5,6 +5,7 @@ mod baseline;
 use baseline::coded;
 use baseline::deck::{check, Fixed};
 use baseline::edit::{edit, start, Edit};
+use baseline::results;
 use baseline::tables::{fill, first_byte, name, word};
 use std::slice::{from_raw_parts, from_raw_parts_mut};
 use std::sync::atomic::{AtomicU64, Ordering};
@@ -22,8 +23,19 @@ fn fault() -> u64 {
 type In = *const u8;
 type Out = *mut u8;
 
-unsafe fn part<'a>(at: In, len: usize) -> &'a [u8] {
+/// A slice: with length 0 any pointer, NULL too.
+unsafe fn part<'a, T>(at: *const T, len: usize) -> &'a [T] {
+    if len == 0 {
+        return &[];
+    }
     from_raw_parts(at, len)
+}
+
+unsafe fn lent<'a, T>(at: *mut T, len: usize) -> &'a mut [T] {
+    if len == 0 {
+        return &mut [];
+    }
+    from_raw_parts_mut(at, len)
 }
 
 #[no_mangle]
@@ -45,7 +57,7 @@ pub unsafe extern "C" fn rule_deck_read(
     e: *mut u32,
     en: usize,
 ) -> u64 {
-    let (rules, elements) = (from_raw_parts_mut(r, rn), from_raw_parts_mut(e, en));
+    let (rules, elements) = (lent(r, rn), lent(e, en));
     let answer = coded(fill(edition, part(deck, len), rules, elements));
     if fault() == 2 && answer % 256 == 0 && rn as u64 > answer / 64 {
         rules[(answer / 64) as usize] = 0; // a number behind the last row
@@ -66,11 +78,11 @@ pub unsafe extern "C" fn rule_deck_word(edition: u64, deck: In, len: usize, k: u
 
 #[no_mangle]
 pub unsafe extern "C" fn rule_deck_start(buf: Out, len: usize) -> u64 {
-    coded(start(from_raw_parts_mut(buf, len)))
+    coded(start(lent(buf, len)))
 }
 
 unsafe fn on(edition: u64, buf: Out, len: usize, length: u64, what: Edit) -> u64 {
-    let buffer = from_raw_parts_mut(buf, len);
+    let buffer = lent(buf, len);
     let before = buffer.to_vec();
     let answer = coded(edit(edition, buffer, length, &what));
     let new = (answer / 256) as usize;
@@ -176,4 +188,149 @@ pub unsafe extern "C" fn rule_deck_add_word(
     n: usize,
 ) -> u64 {
     on(edition, buf, len, length, Edit::AddWord { word: part(word, n).to_vec() })
+}
+
+/// 256 times the major number, plus the minor: 1.0.
+#[no_mangle]
+pub extern "C" fn rule_deck_version() -> u64 {
+    256
+}
+
+#[no_mangle]
+pub unsafe extern "C" fn rule_deck_kind(edition: u64, identifier: u32, kind: *mut u32, n: usize) -> u64 {
+    let table = lent(kind, n);
+    let answer = coded(results::kind(edition, identifier, table));
+    if fault() == 9 && answer == 14 && n == 1 {
+        table[0] = 0; // a refusal that writes
+    }
+    if fault() == 10 && answer == 0 {
+        table.swap(0, 1); // the role first
+    }
+    answer
+}
+
+#[no_mangle]
+pub unsafe extern "C" fn rule_deck_fields(
+    edition: u64,
+    deck: In,
+    len: usize,
+    k: u64,
+    fields: *mut u32,
+    n: usize,
+) -> u64 {
+    let table = lent(fields, n);
+    let answer = coded(results::fields(edition, part(deck, len), k, table));
+    if fault() == 11 && answer % 256 == 16 {
+        table.fill(0); // no such rule: no fields
+    }
+    answer
+}
+
+#[no_mangle]
+pub unsafe extern "C" fn rule_deck_name_part(
+    edition: u64,
+    deck: In,
+    len: usize,
+    k: u64,
+    table: *mut u32,
+    n: usize,
+) -> u64 {
+    let table = lent(table, n);
+    let answer = coded(results::name_part(edition, part(deck, len), k, table));
+    if fault() == 12 && answer == 0 {
+        table[2] = 0; // always the short form
+    }
+    answer
+}
+
+#[no_mangle]
+pub unsafe extern "C" fn rule_deck_word_part(
+    edition: u64,
+    deck: In,
+    len: usize,
+    k: u64,
+    e: u64,
+    w: u64,
+    table: *mut u32,
+    n: usize,
+) -> u64 {
+    let table = lent(table, n);
+    let answer = coded(results::word_part(edition, part(deck, len), [k, e, w], table));
+    if fault() == 13 && answer == 0 {
+        table[1] /= 2; // units for bytes
+    }
+    answer
+}
+
+#[no_mangle]
+pub unsafe extern "C" fn rule_deck_moment(bits: u64, moment: *mut u32, n: usize) -> u64 {
+    let date = f64::from_bits(bits);
+    let asked = if fault() == 14 && date < 0.0 {
+        (2.0 * date.floor() - date).to_bits() // -1.25 as 18:00 on 28 December
+    } else {
+        bits
+    };
+    let answer = coded(results::moment(asked, lent(moment, n)));
+    if fault() == 15 && answer == 0 && n == 4 {
+        *moment.add(4) = 0; // a number behind the table
+    }
+    answer
+}
+
+#[no_mangle]
+pub unsafe extern "C" fn rule_deck_value(
+    edition: u64,
+    identifier: u32,
+    data: In,
+    len: usize,
+    value: *mut u64,
+    n: usize,
+) -> u64 {
+    if fault() == 16 && n < 5 {
+        return 14; // 14 before 1
+    }
+    let table = lent(value, n);
+    let answer = coded(results::value(edition, identifier, part(data, len), table));
+    if fault() == 17 && answer == 0 && table[0] == 3 {
+        table.swap(3, 4); // the date before as the date after
+    }
+    if fault() == 18 && answer == 0 && table[0] == 0 {
+        table[1] = 0; // a number that the marker lacks
+    }
+    answer
+}
+
+/// What a put with a fault takes a table for.
+fn taken(table: &[u64]) -> Vec<u64> {
+    let mut table = table.to_vec();
+    match (fault(), &mut table[..]) {
+        (19, [3, flag, ..]) => *flag = (*flag).min(1), // any flag but 0 as set
+        (20, [1, identifier, ..]) => *identifier %= 1 << 32, // its low 32 bits
+        (21, [_, _, _, _]) => table.push(0),           // four numbers as five
+        _ => {}
+    }
+    table
+}
+
+#[no_mangle]
+pub unsafe extern "C" fn rule_deck_put_value(
+    edition: u64,
+    identifier: u32,
+    value: *const u64,
+    n: usize,
+    buf: Out,
+    len: usize,
+) -> u64 {
+    let (table, buffer) = (taken(part(value, n)), lent(buf, len));
+    let answer = coded(results::put_value(edition, identifier, &table, buffer));
+    if fault() == 22 && answer % 256 == 43 && len < 40 {
+        return 20; // 20 before 43
+    }
+    if fault() == 23 && answer % 256 == 43 && len >= 8 {
+        buffer[..8].copy_from_slice(&[1, 0, 0, 0, 0, 0, 0, 0]); // a refusal that has begun to write
+    }
+    if fault() == 24 && answer == 256 * 40 && table[3] == 1 << 63 {
+        buffer[23] = 0; // minus zero as zero
+    }
+    answer
 }

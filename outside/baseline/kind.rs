@@ -35,6 +35,25 @@ pub fn row(identifier: u32) -> Option<Kind> {
     }
 }
 
+/// What an element is in its rule.
+#[derive(Clone, Copy, Debug, PartialEq, Eq)]
+pub enum Role {
+    None,
+    Condition,
+    Action,
+    Exception,
+}
+
+/// The role of an identifier of that row: "E0 condition, 20C exception", "E1 condition, 20D exception".
+pub fn role(kind: Kind, identifier: u32) -> Role {
+    match (kind, identifier) {
+        (Kind::Marker, _) => Role::None,
+        (Kind::SimpleCondition, _) | (Kind::Size, 0xE0) | (Kind::Dates, 0xE1) => Role::Condition,
+        (Kind::SimpleAction, _) => Role::Action,
+        (Kind::SimpleException | Kind::WordList | Kind::Size | Kind::Dates, _) => Role::Exception,
+    }
+}
+
 /// "Desk has the marker, simple conditions and simple actions."
 fn in_desk(kind: Kind) -> bool {
     matches!(kind, Kind::Marker | Kind::SimpleCondition | Kind::SimpleAction)

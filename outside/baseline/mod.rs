@@ -12,6 +12,7 @@ pub mod kind;
 pub mod lister;
 pub mod random;
 pub mod reader;
+pub mod results;
 pub mod tables;
 pub mod value;
 

@@ -79,6 +79,9 @@ pub fn part(bytes: &[u8], view: Answer<(usize, usize)>) -> &[u8] {
 }
 
 pub fn fixed(edition: u64, bytes: &[u8], k: u64) -> Answer<Fixed> {
-    let deck = read(edition, bytes)?;
+    fixed_in(&read(edition, bytes)?, k)
+}
+
+pub fn fixed_in(deck: &Deck, k: u64) -> Answer<Fixed> {
     Ok(nth(&deck.rules, k, 0)?.fixed)
 }

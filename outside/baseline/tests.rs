@@ -2,10 +2,11 @@
 use super::date::{accepted, civil, Civil};
 use super::deck::{check, read, write, Rule};
 use super::edit::{edit, edited, start, Edit};
-use super::element::{data_bytes, Data};
+use super::element::{data_bytes, Data, Element};
 use super::kind::{alone, identifiers, identifiers_of, row, Kind};
 use super::lister::list;
 use super::random::{self, Random};
+use super::results;
 use super::tables::{fill, fixed, name, part, word};
 use super::value::{put_value, value_of, Value};
 use super::{coded, refuse, Answer, DESK, STUDIO};
@@ -126,9 +127,124 @@ fn values() {
             assert!(buffer[data.len()..].iter().all(|&b| b == 0xA5));
             assert_eq!(put_value(STUDIO, element.identifier, &value, &mut buffer[..data.len() - 1]), refuse(20, 0));
         }
+        let (answer, table) = lent::<u64, 5>(|table| results::value(STUDIO, element.identifier, &data, table));
+        assert_eq!((answer, results::value_from(&table)), (Ok(0), Some(value)));
         let longer = [&data[..], &[0]].concat();
         assert_eq!(value_of(STUDIO, element.identifier, &longer), refuse(45, data.len() as u64));
     }
+}
+
+/// A call on a table of sevens: its answer, and the table after it.
+fn lent<T: Copy + From<u8>, const N: usize>(call: impl FnOnce(&mut [T]) -> Answer<u64>) -> (Answer<u64>, [T; N]) {
+    let mut table = [T::from(7); N];
+    (call(&mut table), table)
+}
+
+#[test]
+fn kinds_as_numbers() {
+    let kind = |identifier| lent(|table| results::kind(STUDIO, identifier, table));
+    assert_eq!(lent(|table| results::kind(DESK, 0xF5, table)), (Ok(0), [1, 1]));
+    assert_eq!(kind(0x64), (Ok(0), [0, 0, 7]));
+    assert_eq!(kind(0x12D), (Ok(0), [2, 2, 7]));
+    assert_eq!(kind(0x1F5), (Ok(0), [3, 3, 7]));
+    assert_eq!(kind(0x211), (Ok(0), [4, 3, 7]));
+    assert_eq!([kind(0xE0), kind(0x20C)], [(Ok(0), [5, 1, 7]), (Ok(0), [5, 3, 7])]);
+    assert_eq!([kind(0xE1), kind(0x20D)], [(Ok(0), [6, 1, 7]), (Ok(0), [6, 3, 7])]);
+    assert_eq!(lent(|table| results::kind(DESK, 0xF5, table)), (refuse(14, 0), [7]));
+    assert_eq!(lent(|table| results::kind(DESK, 0x1F5, table)), (refuse(10, 0), [7]));
+    assert_eq!(lent(|table| results::kind(STUDIO, 0x0100_00F5, table)), (refuse(9, 0), [7]));
+    assert_eq!(lent(|table| results::kind(3, 0xF5, table)), (refuse(1, 0), [7]));
+}
+
+#[test]
+fn parts_and_fields() {
+    let deck = one_deck();
+    assert_eq!(lent(|table| results::fields(STUDIO, &deck, 0, table)), (Ok(0), [0, 1, 0, 0, 0, 0, 7]));
+    assert_eq!(lent(|table| results::fields(STUDIO, &deck, 0, table)), (refuse(14, 0), [7; 5]));
+    assert_eq!(lent(|table| results::fields(STUDIO, &deck, 1, table)), (refuse(16, 0), [7; 5]));
+    assert_eq!(lent(|table| results::fields(DESK, &deck, 1, table)), (refuse(10, 58), [7; 6]));
+    assert_eq!(lent(|table| results::name_part(STUDIO, &deck, 0, table)), (Ok(0), [12, 2, 0, 7]));
+    assert_eq!(lent(|table| results::name_part(STUDIO, &deck, 0, table)), (refuse(14, 0), [7; 2]));
+    assert_eq!(lent(|table| results::word_part(STUDIO, &deck, [0, 0, 0], table)), (refuse(16, 2), [7; 2]));
+    let words = vec![vec![], vec![0xD800; 254], vec![0; 255]];
+    let list = Element { identifier: 0x212, data: Data::Words(words) };
+    let fixed = random::small_rule(0xC8, vec![]).fixed;
+    let deck =
+        write(&[Rule { fixed, name: vec![1; 254], elements: vec![list] }, random::small_rule(0xC8, vec![2; 255])]);
+    let word = |w| lent(|table| results::word_part(STUDIO, &deck, [0, 0, w], table));
+    let start = 12 + 508 + 4 + 16 + 4 + 2 + 18 + 4; // the fields from the name to the list's data
+    assert_eq!(lent(|table| results::name_part(STUDIO, &deck, 0, table)), (Ok(0), [12, 508, 0]));
+    assert_eq!(word(0), (Ok(0), [start + 9, 0, 0]));
+    assert_eq!(word(1), (Ok(0), [start + 14, 508, 0]));
+    assert_eq!(word(2), (Ok(0), [start + 529, 510, 1]));
+    assert_eq!(word(3), (refuse(16, 2), [7; 3]));
+    let second = start + 529 + 510;
+    assert_eq!(lent(|table| results::name_part(STUDIO, &deck, 1, table)), (Ok(0), [second + 7, 510, 1]));
+}
+
+#[test]
+fn moments_as_numbers() {
+    let moment = |date: f64| lent(|table| results::moment(date.to_bits(), table));
+    assert_eq!(moment(2.5), (Ok(0), [1900, 1, 1, 43_200, 7]));
+    assert_eq!(moment(-1.25), (Ok(0), [1899, 12, 29, 21_600, 7]));
+    assert_eq!(moment(2_958_466.0), (refuse(11, 0), [7; 5]));
+    assert_eq!(lent(|table| results::moment(2.5f64.to_bits(), table)), (refuse(14, 0), [7; 3]));
+    assert_eq!(lent(|table| results::moment(f64::NAN.to_bits(), table)), (refuse(11, 0), [7; 3]));
+}
+
+/// The data of an element of dates: after noon on 1 January 1900, and a date that does not count.
+fn dates_data() -> Vec<u8> {
+    let dates = [2.5f64, -0.0].map(|date| date.to_bits().to_le_bytes());
+    let words = [1u32, 0, 1, 0, 0, 0].map(|n| n.to_le_bytes());
+    [&words[..4].concat()[..], &dates[0], &words[4..].concat(), &dates[1]].concat()
+}
+
+#[test]
+fn values_as_numbers() {
+    let (after, before) = (2.5f64.to_bits(), 1 << 63);
+    let dates = dates_data();
+    assert_eq!(lent(|table| results::value(STUDIO, 0xE1, &dates, table)), (Ok(0), [3, 1, 0, after, before, 7]));
+    assert_eq!(lent(|table| results::value(STUDIO, 0xE1, &dates, table)), (refuse(14, 0), [7; 4]));
+    assert_eq!(lent(|table| results::value(STUDIO, 0xE1, &dates[1..], table)), (refuse(40, 0), [7; 4]));
+    assert_eq!(lent(|table| results::value(DESK, 0xE1, &dates, table)), (refuse(42, 0), [7; 5]));
+    assert_eq!(lent(|table| results::value(0, 0xE1, &dates, table)), (refuse(1, 0), [7; 5]));
+    let simple = [1, 0, 0, 0, 0, 0, 0, 0];
+    assert_eq!(lent(|table| results::value(DESK, 0xF5, &simple, table)), (Ok(0), [1, 0xF5, 7, 7, 7]));
+    assert_eq!(lent(|table| results::value(STUDIO, 0x211, &[0; 4], table)), (Ok(0), [4, 0, 7, 7, 7]));
+    let size = [&simple[..], &[3, 0, 0, 0], &[0xFF; 4]].concat();
+    assert_eq!(lent(|table| results::value(STUDIO, 0x20C, &size, table)), (Ok(0), [2, 3, 0xFFFF_FFFF, 7, 7]));
+    let marker = [1, 0, 0, 0, 0, 0, 0, 0, 1, 0, 0, 0];
+    assert_eq!(lent(|table| results::value(DESK, 0x64, &marker, table)), (Ok(0), [0, 7, 7, 7, 7]));
+}
+
+#[test]
+fn numbers_as_data() {
+    let put = |identifier, table: &[u64]| {
+        let mut buffer = [0xA5; 41];
+        let answer = results::put_value(STUDIO, identifier, table, &mut buffer);
+        let written = buffer.iter().rposition(|&byte| byte != 0xA5).map_or(0, |last| last + 1);
+        (answer, buffer[..written].to_vec())
+    };
+    let none = |number, place| (refuse(number, place), Vec::new());
+    let (after, before) = (2.5f64.to_bits(), 1 << 63);
+    assert_eq!(put(0xE1, &[3, 1, 0, after, before]), (Ok(40), dates_data()));
+    assert_eq!(put(0xF5, &[1, 0xF5, 9, u64::MAX, 9, 9, 9]), (Ok(8), vec![1, 0, 0, 0, 0, 0, 0, 0]));
+    for table in
+        [&[3, 2, 0, after, before], &[3, 1, 1 << 32, after, before], &[5, 1, 0, after, before], &[4, 0, 0, 0, 0]]
+    {
+        assert_eq!(put(0xE1, table), none(40, 0));
+    }
+    assert_eq!(put(0xE1, &[3, 1, 0, after]), none(40, 0));
+    assert_eq!(put(0xF5, &[1, 0xF5 + (1 << 32), 0, 0, 0]), none(40, 0));
+    assert_eq!(put(0xE0, &[2, 1, 1 << 32, 0, 0]), none(40, 0));
+    assert_eq!(put(0x211, &[4, 0, 0, 0, 0]), none(40, 0));
+    assert_eq!(put(0x2F5, &[]), none(41, 0));
+    assert_eq!(put(0xE1, &[3, 0, 0, f64::NAN.to_bits(), f64::NAN.to_bits()]), none(43, 16));
+    assert_eq!(put(0xE1, &[3, 0, 0, after, 2_958_466f64.to_bits()]), none(43, 32));
+    assert_eq!(results::put_value(DESK, 0xE1, &[], &mut []), refuse(42, 0));
+    assert_eq!(results::put_value(STUDIO, 0xE1, &[], &mut []), refuse(40, 0));
+    assert_eq!(results::put_value(3, 0xE1, &[], &mut []), refuse(1, 0));
+    assert_eq!(results::put_value(DESK, 0xF5, &[1, 0xF5, 0, 0, 0], &mut [0; 7]), refuse(20, 0));
 }
 
 fn sizes_fit(rules: &[Rule], bytes: &[u8]) {

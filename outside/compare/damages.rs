@@ -6,7 +6,7 @@ use crate::baseline::random::small_rule;
 use crate::baseline::{DESK, STUDIO};
 use crate::decks::compare;
 use crate::share::pieces;
-use crate::Outcome;
+use crate::{Outcome, Plan};
 
 fn element(identifier: u32) -> Element {
     let data = match row(identifier) {
@@ -54,7 +54,7 @@ pub fn decks() -> Vec<Vec<u8>> {
     ]
 }
 
-pub fn all() -> Outcome {
+pub fn all(_: &Plan) -> Outcome {
     let mut places = Vec::new();
     let decks = decks();
     for (i, deck) in decks.iter().enumerate() {

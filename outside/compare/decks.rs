@@ -1,12 +1,15 @@
-//! Whole decks: the check, and with the door the tables and the views.
+//! Whole decks: the check, the tables, the views, and the tables that say fixed fields and parts.
 use crate::baseline::deck::{read, write, Deck};
 use crate::baseline::random::{deck, rules_of_size, Random};
+use crate::baseline::results::{fields_in, name_part_in, word_part_in, FIELDS, PART};
+use crate::baseline::tables::{fill_from, first_byte, name_in, word_in};
 use crate::baseline::{coded, Answer, DESK, STUDIO};
+use crate::lent::{every_size, tables_differ};
 use crate::lesser::smallest_deck;
-use crate::share::{hex, pieces, said};
+use crate::share::{hex, pieces, said, Answers};
 use crate::{door, Outcome, Plan};
 
-/// The first difference that the calls on this deck show. `far` asks for tables of several sizes and for views.
+/// The first difference that the calls on this deck show. `far` asks for tables of several sizes, for views, fixed fields and parts.
 pub fn differs(edition: u64, bytes: &[u8], far: bool) -> Option<String> {
     let deck = read(edition, bytes);
     let baseline = coded(deck.as_ref().map(|deck| deck.rules.len() as u64).map_err(|r| *r));
@@ -17,106 +20,109 @@ pub fn differs(edition: u64, bytes: &[u8], far: bool) -> Option<String> {
     more(edition, bytes, &deck, far)
 }
 
-#[cfg(not(door))]
-fn more(_: u64, _: &[u8], _: &Answer<Deck>, _: bool) -> Option<String> {
-    None
-}
-
-#[cfg(door)]
 fn more(edition: u64, bytes: &[u8], deck: &Answer<Deck>, far: bool) -> Option<String> {
-    door_calls::tables(edition, bytes, deck, far).or_else(|| {
-        if far {
-            door_calls::views(edition, bytes, deck)
-        } else {
-            None
-        }
-    })
+    tables(edition, bytes, deck, far).or_else(|| if far { views(edition, bytes, deck) } else { None })
 }
 
-#[cfg(door)]
-mod door_calls {
-    use crate::baseline::deck::Deck;
-    use crate::baseline::tables::{fill_from, first_byte, name_in, word_in};
-    use crate::baseline::{coded, Answer};
-    use crate::door;
-    use crate::share::said;
+const AS_FOUND: u32 = 0xA5A5_A5A5;
+static FIELDS_ANSWERS: Answers = Answers::new();
+static PART_ANSWERS: Answers = Answers::new();
 
-    const AS_FOUND: u32 = 0xA5A5_A5A5;
-
-    /// What the baseline makes of a deck that it read: the same refusal, or an answer of its own.
-    fn then<T>(deck: &Answer<Deck>, ask: impl FnOnce(&Deck) -> Answer<T>) -> Answer<T> {
-        match deck {
-            Ok(deck) => ask(deck),
-            Err(r) => Err(*r),
-        }
+/// What the baseline makes of a deck that it read: the same refusal, or an answer of its own.
+fn then<T>(deck: &Answer<Deck>, ask: impl FnOnce(&Deck) -> Answer<T>) -> Answer<T> {
+    match deck {
+        Ok(deck) => ask(deck),
+        Err(r) => Err(*r),
     }
+}
 
-    fn table_pair(edition: u64, bytes: &[u8], deck: &Answer<Deck>, rules: usize, elements: usize) -> Option<String> {
-        let (mut r, mut e) = (vec![AS_FOUND; rules], vec![AS_FOUND; elements]);
-        let (mut r2, mut e2) = (r.clone(), e.clone());
-        let archive = door::read(edition, bytes, &mut r, &mut e);
-        let baseline = coded(then(deck, |deck| fill_from(deck, &mut r2, &mut e2)));
-        if archive == baseline && r == r2 && e == e2 {
-            return None;
-        }
-        let call = said(&format!("read with tables of {rules} and {elements}"), archive, baseline);
-        Some(format!("{call}\nthe archive leaves {r:x?} {e:x?}\ndocument 01 wants {r2:x?} {e2:x?}"))
+fn table_pair(edition: u64, bytes: &[u8], deck: &Answer<Deck>, rules: usize, elements: usize) -> Option<String> {
+    let (mut r, mut e) = (vec![AS_FOUND; rules], vec![AS_FOUND; elements]);
+    let (mut r2, mut e2) = (r.clone(), e.clone());
+    let archive = door::read(edition, bytes, &mut r, &mut e);
+    let baseline = coded(then(deck, |deck| fill_from(deck, &mut r2, &mut e2)));
+    if archive == baseline && r == r2 && e == e2 {
+        return None;
     }
+    let call = said(&format!("read with tables of {rules} and {elements}"), archive, baseline);
+    Some(format!("{call}\nthe archive leaves {r:x?} {e:x?}\ndocument 01 wants {r2:x?} {e2:x?}"))
+}
 
-    /// Tables with a part of a row more; and far: that fit, that are one number short, or empty.
-    pub fn tables(edition: u64, bytes: &[u8], deck: &Answer<Deck>, far: bool) -> Option<String> {
-        let (r, e) = match deck {
-            Err(_) => (8, 8),
-            Ok(Deck { rules, .. }) => (4 * rules.len(), 4 * rules.iter().map(|r| r.elements.len()).sum::<usize>()),
-        };
-        let (r1, e1) = (r.max(1) - 1, e.max(1) - 1);
-        let sizes = [(r + 3, e + 5), (r, e), (r1, e), (r, e1), (r1, e1), (0, e), (r, 0)];
-        let asked = if far { &sizes[..] } else { &sizes[..1] };
-        asked.iter().find_map(|&(r, e)| table_pair(edition, bytes, deck, r, e))
+/// Tables with a part of a row more; and far: that fit, that are one number short, or empty.
+fn tables(edition: u64, bytes: &[u8], deck: &Answer<Deck>, far: bool) -> Option<String> {
+    let (r, e) = match deck {
+        Err(_) => (8, 8),
+        Ok(Deck { rules, .. }) => (4 * rules.len(), 4 * rules.iter().map(|r| r.elements.len()).sum::<usize>()),
+    };
+    let (r1, e1) = (r.max(1) - 1, e.max(1) - 1);
+    let sizes = [(r + 3, e + 5), (r, e), (r1, e), (r, e1), (r1, e1), (0, e), (r, 0)];
+    let asked = if far { &sizes[..] } else { &sizes[..1] };
+    asked.iter().find_map(|&(r, e)| table_pair(edition, bytes, deck, r, e))
+}
+
+fn view(call: &str, numbers: &[u64], archive: u64, baseline: Answer<(usize, usize)>) -> Option<String> {
+    let baseline = coded(first_byte(baseline));
+    if archive == baseline {
+        return None;
     }
+    Some(said(&format!("{call} {numbers:?}"), archive, baseline))
+}
 
-    fn view(call: &str, numbers: &[u64], archive: u64, baseline: Answer<(usize, usize)>) -> Option<String> {
-        let baseline = coded(first_byte(baseline));
-        if archive == baseline {
-            return None;
-        }
-        Some(said(&format!("{call} {numbers:?}"), archive, baseline))
-    }
+/// Some numbers that there are, the last among them, and some that there are not.
+fn numbers(count: usize) -> Vec<u64> {
+    let n = count as u64;
+    let mut list = vec![0, n / 2, n.max(1) - 1, n, 1 << 32, u64::MAX];
+    list.sort_unstable();
+    list.dedup();
+    list
+}
 
-    /// Some numbers that there are, the last among them, and some that there are not.
-    fn numbers(count: usize) -> Vec<u64> {
-        let n = count as u64;
-        let mut list = vec![0, n / 2, n.max(1) - 1, n, 1 << 32, u64::MAX];
-        list.sort_unstable();
-        list.dedup();
-        list
-    }
-
-    /// Numbers of rule, element and word; where there is no such rule or element, few go on.
-    fn triples(deck: &Answer<Deck>) -> Vec<[u64; 3]> {
-        let rules = deck.as_ref().map_or(&[][..], |deck| &deck.places);
-        let mut list = vec![[u64::MAX; 3]];
-        for k in numbers(rules.len()) {
-            let elements = rules.get(k as usize).map_or(&[][..], |rule| &rule.elements);
-            for e in numbers(elements.len()) {
-                match elements.get(e as usize) {
-                    Some(element) => list.extend(numbers(element.words.len()).iter().map(|&w| [k, e, w])),
-                    None => list.push([k, e, 0]),
-                }
+/// Numbers of rule, element and word; where there is no such rule or element, few go on.
+fn triples(deck: &Answer<Deck>) -> Vec<[u64; 3]> {
+    let rules = deck.as_ref().map_or(&[][..], |deck| &deck.places);
+    let mut list = vec![[u64::MAX; 3]];
+    for k in numbers(rules.len()) {
+        let elements = rules.get(k as usize).map_or(&[][..], |rule| &rule.elements);
+        for e in numbers(elements.len()) {
+            match elements.get(e as usize) {
+                Some(element) => list.extend(numbers(element.words.len()).iter().map(|&w| [k, e, w])),
+                None => list.push([k, e, 0]),
             }
         }
-        list
     }
+    list
+}
 
-    pub fn views(edition: u64, bytes: &[u8], deck: &Answer<Deck>) -> Option<String> {
-        let rules = deck.as_ref().map_or(0, |deck| deck.rules.len());
-        let name = |&k: &u64| view("name", &[k], door::name(edition, bytes, k), then(deck, |d| name_in(d, k)));
-        let word = |n: &[u64; 3]| {
-            let [k, e, w] = *n;
-            view("word", n, door::word(edition, bytes, k, e, w), then(deck, |d| word_in(d, k, e, w)))
-        };
-        numbers(rules).iter().find_map(name).or_else(|| triples(deck).iter().find_map(word))
-    }
+fn views(edition: u64, bytes: &[u8], deck: &Answer<Deck>) -> Option<String> {
+    let rules = deck.as_ref().map_or(0, |deck| deck.rules.len());
+    let name = |&k: &u64| view("name", &[k], door::name(edition, bytes, k), then(deck, |d| name_in(d, k)));
+    let word = |n: &[u64; 3]| {
+        let [k, e, w] = *n;
+        view("word", n, door::word(edition, bytes, k, e, w), then(deck, |d| word_in(d, k, e, w)))
+    };
+    let of_rule =
+        |k: &u64| name(k).or_else(|| fields(edition, bytes, deck, *k)).or_else(|| name_part(edition, bytes, deck, *k));
+    let of_word = |n: &[u64; 3]| word(n).or_else(|| word_part(edition, bytes, deck, *n));
+    numbers(rules).iter().find_map(of_rule).or_else(|| triples(deck).iter().find_map(of_word))
+}
+
+fn fields(edition: u64, bytes: &[u8], deck: &Answer<Deck>, k: u64) -> Option<String> {
+    let archive = |table: &mut [u32]| door::fields(edition, bytes, k, table);
+    let baseline = |table: &mut [u32]| then(deck, |d| fields_in(d, k, table));
+    tables_differ(&FIELDS_ANSWERS, every_size(FIELDS), archive, baseline).map(|what| format!("fields {k}, {what}"))
+}
+
+fn name_part(edition: u64, bytes: &[u8], deck: &Answer<Deck>, k: u64) -> Option<String> {
+    let archive = |table: &mut [u32]| door::name_part(edition, bytes, k, table);
+    let baseline = |table: &mut [u32]| then(deck, |d| name_part_in(d, k, table));
+    tables_differ(&PART_ANSWERS, every_size(PART), archive, baseline).map(|what| format!("name_part {k}, {what}"))
+}
+
+fn word_part(edition: u64, bytes: &[u8], deck: &Answer<Deck>, numbers: [u64; 3]) -> Option<String> {
+    let archive = |table: &mut [u32]| door::word_part(edition, bytes, numbers, table);
+    let baseline = |table: &mut [u32]| then(deck, |d| word_part_in(d, numbers, table));
+    let what = tables_differ(&PART_ANSWERS, every_size(PART), archive, baseline)?;
+    Some(format!("word_part {numbers:?}, {what}"))
 }
 
 /// One deck in one edition; a difference is shown on the fewest bytes found that have one.
@@ -154,5 +160,7 @@ pub fn all(plan: &Plan) -> Outcome {
         let bytes = write(&rules_of_size(59_997 + i));
         Ok(compare(DESK, &bytes, true)? + compare(STUDIO, &bytes, true)? + compare(3, &bytes, true)?)
     })?;
+    println!("compare: decks: how often each number was answered: fields{}", FIELDS_ANSWERS.counted());
+    println!("compare: decks: how often each number was answered: parts{}", PART_ANSWERS.counted());
     Ok(long + random)
 }

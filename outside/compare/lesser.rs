@@ -60,7 +60,7 @@ pub fn smallest_deck(bytes: &[u8], fails: impl Fn(&[u8]) -> bool) -> Vec<u8> {
 }
 
 /// Bytes are left out as long as it still fails, first many together, then fewer.
-fn fewer_bytes(bytes: &[u8], fails: impl Fn(&[u8]) -> bool) -> Vec<u8> {
+pub fn fewer_bytes(bytes: &[u8], fails: impl Fn(&[u8]) -> bool) -> Vec<u8> {
     let mut best = bytes.to_vec();
     let mut size = best.len() / 2;
     let begun = Instant::now();

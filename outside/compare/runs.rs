@@ -7,26 +7,12 @@ use crate::baseline::kind::{row, Kind, WORD_LISTS};
 use crate::baseline::random::{self, Random};
 use crate::baseline::{coded, DESK, STUDIO};
 use crate::lesser::lesser_decks;
-use crate::share::{hex, pieces, said};
+use crate::share::{hex, pieces, said, Answers};
 use crate::{door, Outcome, Plan};
-use std::sync::Mutex;
 
 const GUARD: usize = 64;
 
-/// How often each number was answered.
-static ANSWERS: Mutex<[u64; 64]> = Mutex::new([0; 64]);
-
-fn count(code: u64) {
-    if let Ok(mut answers) = ANSWERS.lock() {
-        answers[code as usize % 64] += 1;
-    }
-}
-
-fn counted() -> String {
-    let answers = ANSWERS.lock().map_or([0; 64], |answers| *answers);
-    let given = answers.iter().enumerate().filter(|(_, &times)| times > 0);
-    given.map(|(code, times)| format!(" {code}:{times}")).collect()
-}
+static ANSWERS: Answers = Answers::new();
 
 #[derive(Clone, Debug)]
 enum Step {
@@ -92,7 +78,7 @@ impl State {
             let (got, wanted) = (self.archive[at], self.baseline[at]);
             return Some(format!("buffer, byte {at}: the archive leaves {got:02X}, document 01 {wanted:02X}"));
         }
-        count(baseline % 256);
+        ANSWERS.count(baseline);
         if baseline % 256 == 0 {
             self.length = (baseline / 256) as usize;
         }
@@ -401,6 +387,6 @@ pub fn all(plan: &Plan) -> Outcome {
         }
         Ok(cases)
     })?;
-    println!("compare: edits: how often each number was answered:{}", counted());
+    println!("compare: edits: how often each number was answered:{}", ANSWERS.counted());
     Ok(cases)
 }

@@ -1,6 +1,6 @@
 //! Work shared out among the machine's cores, and small things that every comparison uses.
 use crate::Outcome;
-use std::sync::atomic::{AtomicUsize, Ordering};
+use std::sync::atomic::{AtomicU64, AtomicUsize, Ordering};
 use std::sync::Mutex;
 
 /// Does pieces 0 to n - 1; what each does hangs on its number alone, so the result does not hang on the cores.
@@ -46,4 +46,31 @@ pub fn shown(answer: u64) -> String {
 
 pub fn said(call: &str, archive: u64, baseline: u64) -> String {
     format!("{call}: the archive answers {}, document 01 {}", shown(archive), shown(baseline))
+}
+
+/// A table or a buffer, with the guard behind it, where the two sides leave it otherwise.
+pub fn left_behind(before: String, archive: String, baseline: String) -> String {
+    if archive == baseline {
+        return String::new();
+    }
+    format!("\nbefore, with a guard: {before}\nthe archive leaves:   {archive}\ndocument 01 wants:    {baseline}")
+}
+
+/// How often each number was answered.
+pub struct Answers([AtomicU64; 64]);
+
+impl Answers {
+    pub const fn new() -> Answers {
+        const NONE: AtomicU64 = AtomicU64::new(0);
+        Answers([NONE; 64])
+    }
+
+    pub fn count(&self, answer: u64) {
+        self.0[answer as usize % 64].fetch_add(1, Ordering::Relaxed);
+    }
+
+    pub fn counted(&self) -> String {
+        let times = self.0.iter().map(|times| times.load(Ordering::Relaxed));
+        times.enumerate().filter(|&(_, times)| times > 0).map(|(code, times)| format!(" {code}:{times}")).collect()
+    }
 }

@@ -1,22 +1,20 @@
 //! The calls that a vector may ask for, run over the baseline.
 use crate::baseline::deck::{check, Fixed};
 use crate::baseline::edit::{edit, start, Edit};
-use crate::baseline::element::Span;
-use crate::baseline::kind::alone;
-use crate::baseline::tables::{fill, first_byte, fixed, name, part, word};
-use crate::baseline::value::{put_value, value_of, Value};
-use crate::baseline::{coded, date, Answer};
+use crate::baseline::results;
+use crate::baseline::tables::{fill, first_byte, name, part, word};
+use crate::baseline::{coded, Answer};
 
 pub const BASE: u8 = 0;
-pub const IDENTIFIER: u8 = 1;
+pub const KIND: u8 = 1;
 pub const VALUE: u8 = 2;
-pub const PUT: u8 = 3;
-pub const DATE: u8 = 4;
+pub const PUT_VALUE: u8 = 3;
+pub const MOMENT: u8 = 4;
 pub const CHECK: u8 = 5;
 pub const READ: u8 = 6;
 pub const NAME: u8 = 7;
 pub const WORD: u8 = 8;
-pub const FIXED: u8 = 9;
+pub const FIELDS: u8 = 9;
 pub const START: u8 = 10;
 pub const SWITCH: u8 = 11;
 pub const RENAME: u8 = 12;
@@ -25,9 +23,12 @@ pub const INSERT: u8 = 14;
 pub const ADD_RULE: u8 = 15;
 pub const ADD_ELEMENT: u8 = 16;
 pub const ADD_WORD: u8 = 17;
+pub const NAME_PART: u8 = 18;
+pub const WORD_PART: u8 = 19;
 
-/// What the tables of a read hold before it, in each number.
-pub const AS_FOUND: u32 = 0xA5A5_A5A5;
+/// What a table holds before its call, in each number: of 32 bits, of 64 bits.
+const AS_FOUND: u32 = 0xA5A5_A5A5;
+const WIDE_AS_FOUND: u64 = 0xA5A5_A5A5_A5A5_A5A5;
 
 #[derive(Clone, Debug)]
 pub struct Call {
@@ -36,43 +37,31 @@ pub struct Call {
     pub bytes: Vec<Vec<u8>>,
 }
 
-fn listed(numbers: &[u64]) -> Vec<u8> {
-    numbers.iter().flat_map(|n| n.to_le_bytes()).collect()
+fn listed(table: &[u32]) -> Vec<u8> {
+    table.iter().flat_map(|n| n.to_le_bytes()).collect()
 }
 
-/// A value as five numbers: its case, and what it holds.
-pub fn value_numbers(value: &Value) -> [u64; 5] {
-    match value {
-        Value::Marker => [0, 0, 0, 0, 0],
-        Value::Simple(identifier) => [1, u64::from(*identifier), 0, 0, 0],
-        Value::Size(minimum, maximum) => [2, u64::from(*minimum), u64::from(*maximum), 0, 0],
-        Value::Dates(s) => [3, u64::from(s.after_set), s.after, u64::from(s.before_set), s.before],
-        Value::Words(count) => [4, *count, 0, 0, 0],
-    }
+/// The answer of a call that fills a table of so many numbers, and the whole table.
+fn filled(room: u64, call: impl Fn(&mut [u32]) -> Answer<u64>) -> (u64, Vec<u8>) {
+    let mut table = vec![AS_FOUND; room as usize];
+    (coded(call(&mut table)), listed(&table))
 }
 
-fn numbers_value(n: &[u64]) -> Value {
-    match n[0] {
-        0 => Value::Marker,
-        1 => Value::Simple(n[1] as u32),
-        2 => Value::Size(n[1] as u32, n[2] as u32),
-        3 => Value::Dates(Span { after_set: n[1] == 1, after: n[2], before_set: n[3] == 1, before: n[4] }),
-        _ => Value::Words(n[1]),
-    }
+fn value(edition: u64, identifier: u32, data: &[u8], room: u64) -> (u64, Vec<u8>) {
+    let mut table = vec![WIDE_AS_FOUND; room as usize];
+    let answer = coded(results::value(edition, identifier, data, &mut table));
+    (answer, table.iter().flat_map(|n| n.to_le_bytes()).collect())
 }
 
-/// Answer 0 and an effect, or a refusal and none.
-fn shown<T>(answer: Answer<T>, effect: impl Fn(T) -> Vec<u8>) -> (u64, Vec<u8>) {
-    match answer {
-        Ok(value) => (0, effect(value)),
-        Err(r) => (coded(Err(r)), Vec::new()),
-    }
-}
-
-fn read(edition: u64, deck: &[u8], rules: usize, elements: usize) -> (u64, Vec<u8>) {
-    let (mut r, mut e) = (vec![AS_FOUND; rules], vec![AS_FOUND; elements]);
+fn read(edition: u64, deck: &[u8], rules: u64, elements: u64) -> (u64, Vec<u8>) {
+    let (mut r, mut e) = (vec![AS_FOUND; rules as usize], vec![AS_FOUND; elements as usize]);
     let answer = coded(fill(edition, deck, &mut r, &mut e));
-    (answer, r.iter().chain(&e).flat_map(|n| n.to_le_bytes()).collect())
+    (answer, [listed(&r), listed(&e)].concat())
+}
+
+/// The answer of a view, and its bytes.
+fn shown(deck: &[u8], view: Answer<(usize, usize)>) -> (u64, Vec<u8>) {
+    (coded(first_byte(view)), part(deck, view).to_vec())
 }
 
 /// The edit that a call asks for.
@@ -142,23 +131,16 @@ pub fn run(call: &Call) -> (u64, Vec<u8>) {
     let (n, b) = (&call.numbers, &call.bytes);
     match call.call {
         BASE => (0, Vec::new()),
-        IDENTIFIER => shown(alone(n[0], n[1] as u32), |kind| vec![kind as u8]),
-        VALUE => shown(value_of(n[0], n[1] as u32, &b[0]), |value| listed(&value_numbers(&value))),
-        DATE => shown(date::civil(n[0]), |c| listed(&[c.year, c.month, c.day, c.second])),
+        KIND => filled(n[2], |t| results::kind(n[0], n[1] as u32, t)),
+        VALUE => value(n[0], n[1] as u32, &b[0], n[2]),
+        MOMENT => filled(n[1], |t| results::moment(n[0], t)),
         CHECK => (coded(check(n[0], &b[0])), Vec::new()),
-        READ => read(n[0], &b[0], n[1] as usize, n[2] as usize),
-        NAME => {
-            let view = name(n[0], &b[0], n[1]);
-            (coded(first_byte(view)), part(&b[0], view).to_vec())
-        }
-        WORD => {
-            let view = word(n[0], &b[0], n[1], n[2], n[3]);
-            (coded(first_byte(view)), part(&b[0], view).to_vec())
-        }
-        FIXED => shown(fixed(n[0], &b[0], n[1]), |f| {
-            let kept = f.unknown.map(u64::from);
-            listed(&[&[u64::from(f.signature), u64::from(f.on)], &kept[..]].concat())
-        }),
+        READ => read(n[0], &b[0], n[1], n[2]),
+        NAME => shown(&b[0], name(n[0], &b[0], n[1])),
+        WORD => shown(&b[0], word(n[0], &b[0], n[1], n[2], n[3])),
+        FIELDS => filled(n[2], |t| results::fields(n[0], &b[0], n[1], t)),
+        NAME_PART => filled(n[2], |t| results::name_part(n[0], &b[0], n[1], t)),
+        WORD_PART => filled(n[4], |t| results::word_part(n[0], &b[0], [n[1], n[2], n[3]], t)),
         _ => on_buffer(call),
     }
 }
@@ -169,7 +151,7 @@ fn on_buffer(call: &Call) -> (u64, Vec<u8>) {
     let mut buffer = call.bytes[0].clone();
     let answer = match call.call {
         START => start(&mut buffer),
-        PUT => put_value(n[0], n[1] as u32, &numbers_value(&n[2..]), &mut buffer),
+        PUT_VALUE => results::put_value(n[0], n[1] as u32, &n[2..], &mut buffer),
         _ => edit(n[0], &mut buffer, n[1], &wanted(call)),
     };
     (coded(answer), buffer)

@@ -32,7 +32,7 @@ fn deck_lengths(file: &mut File) {
         for size in [59_999, 60_000, 60_001] {
             let deck = write(&rules_of_size(size));
             file.call(CHECK, &[edition], &[&deck]);
-            file.call(NAME, &[edition, 119], &[&deck]);
+            name(file, edition, &deck, 119);
             file.call(READ, &[edition, 483, 483], &[&deck]);
             file.call(READ, &[edition, 487, 486], &[&deck]);
             edit(file, edition, &deck, 40, &Edit::Switch { k: 119, on: false });
@@ -101,7 +101,7 @@ fn many_rules(file: &mut File) {
                 file.call(READ, &[edition, 1024, 1023], &[&deck]);
                 file.call(READ, &[edition, 1024, 1024 * (edition - 1)], &[&deck]);
             }
-            file.call(NAME, &[edition, 255], &[&deck]);
+            name(file, edition, &deck, 255);
             for more in [0, 16, 100] {
                 edit(file, edition, &deck, more, &simple_rule(Vec::new()));
                 edit(file, edition, &deck, more, &Edit::Insert { k: 0, second: deck.clone(), j: 254 });
@@ -155,7 +155,7 @@ fn many_words(file: &mut File) {
         file.base(&deck);
         for edition in EDITIONS {
             file.call(CHECK, &[edition], &[&deck]);
-            file.call(WORD, &[edition, 0, 1, 63], &[&deck]);
+            word(file, edition, &deck, [0, 1, 63]);
             for word in [vec![], units(1), units(254), units(255), vec![1], vec![0; 512]] {
                 for more in [0, 6, 7, 600] {
                     edit(file, edition, &deck, more, &Edit::AddWord { word: word.clone() });
@@ -165,7 +165,7 @@ fn many_words(file: &mut File) {
     }
     let long = write(&[rule(0, vec![words(&[255; 64])])]);
     file.call(CHECK, &[STUDIO], &[&long]);
-    file.call(WORD, &[STUDIO, 0, 0, 63], &[&long]);
+    word(file, STUDIO, &long, [0, 0, 63]);
     edit(file, STUDIO, &long, 3, &Edit::AddWord { word: vec![0] });
 }
 

@@ -4,7 +4,9 @@ use crate::baseline::edit::Edit;
 use crate::baseline::element::{data_bytes, Data, Element, Span};
 use crate::baseline::kind::{identifiers_of, row, Kind};
 use crate::baseline::random::small_rule;
-use crate::baseline::{DESK, STUDIO};
+use crate::baseline::results;
+use crate::baseline::value::value_of;
+use crate::baseline::{coded, DESK, STUDIO};
 use crate::call::*;
 use crate::file::File;
 
@@ -66,7 +68,7 @@ pub fn each_answer(strings: Vec<Vec<u8>>, answer: impl Fn(&[u8]) -> u64) -> Vec<
 }
 
 pub fn value_answer(edition: u64, identifier: u32, data: &[u8]) -> u64 {
-    run(&Call { call: VALUE, numbers: vec![edition, u64::from(identifier)], bytes: vec![data.to_vec()] }).0
+    coded(value_of(edition, identifier, data).map(|_| 0))
 }
 
 /// An element of each kind's shape, for the faults.
@@ -143,4 +145,35 @@ pub fn simple_rule(name: Vec<u8>) -> Edit {
 
 pub fn edit(file: &mut File, edition: u64, deck: &[u8], more: usize, what: &Edit) -> u64 {
     file.add(of_edit(edition, &buffered(deck, more), deck.len() as u64, what)).0
+}
+
+/// The call of a table that has just the room it needs.
+pub fn kind(file: &mut File, edition: u64, identifier: u64) {
+    file.call(KIND, &[edition, identifier, results::KIND as u64], &[]);
+}
+
+pub fn moment(file: &mut File, bits: u64) {
+    file.call(MOMENT, &[bits, results::MOMENT as u64], &[]);
+}
+
+pub fn value(file: &mut File, edition: u64, identifier: u32, data: &[u8]) {
+    file.call(VALUE, &[edition, u64::from(identifier), results::VALUE as u64], &[data]);
+}
+
+/// A view, and its part in a table.
+pub fn name(file: &mut File, edition: u64, deck: &[u8], k: u64) {
+    file.call(NAME, &[edition, k], &[deck]);
+    file.call(NAME_PART, &[edition, k, results::PART as u64], &[deck]);
+}
+
+pub fn word(file: &mut File, edition: u64, deck: &[u8], [k, e, w]: [u64; 3]) {
+    file.call(WORD, &[edition, k, e, w], &[deck]);
+    file.call(WORD_PART, &[edition, k, e, w, results::PART as u64], &[deck]);
+}
+
+/// The same call with a table that has no room, one number too few, and one more than it needs.
+pub fn other_rooms(file: &mut File, call: u8, numbers: &[u64], room: usize, bytes: &[&[u8]]) {
+    for room in [0, room - 1, room + 1] {
+        file.call(call, &[numbers, &[room as u64]].concat(), bytes);
+    }
 }
