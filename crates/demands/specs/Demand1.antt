@@ -43,6 +43,7 @@ use Rattle.bounds.specs.Laws.Calls.{check-listed, pass-listed, read-listed, nam
 use Rattle.bounds.specs.Laws.Results.{kind-listed, moment-listed, value-listed, put-listed}
 use Rattle.lent.specs.Lent.{momentWidth, lentSays, lentLeaves, Lends, LendsMoment}
 use Rattle.lent.specs.Laws.Lent.{lent-as}
+use Rattle.rule_deck.specs.Sent.{Hands, HandsMoment}
 
 -- the answer and the buffer of an edit are functions of what it was called with: two outcomes that the promise allows coincide
 pub edits-coincide : (edition n : ℕ) (e : Edit) (d : List ℕ) {r q : Outcome} {x y : List ℕ} → Edits edition n e d r x → Edits edition n e d q y → (r ≡ q) × (x ≡ y)
@@ -148,6 +149,16 @@ results-coincide width t x f g = (one (f .0) (g .0), one (f .1) (g .1))
 
 pub moments-coincide : (bits : ℕ) (t : List ℕ) {r q : Outcome} {a b : List ℕ} → LendsMoment bits t r a → LendsMoment bits t q b → (r ≡ q) × (a ≡ b)
 moments-coincide bits t f g = results-coincide momentWidth t (g .0) (lent-as momentWidth t (f .0) (f .1 .1) (said-one (accepted bits) bits (f .0) (g .0) (f .1 .0) (g .1 .0))) (g .1 .1)
+
+-- and so over the products' door
+pub hands-coincide : (width : ℕ) (t : List ℕ) (x : Said) {r q : ℕ} {a b : List ℕ} → Hands width t x r a → Hands width t x q b → (r ≡ q) × (a ≡ b)
+hands-coincide width t x f g = (one (f .0) (g .0), one (f .1) (g .1))
+
+pub hand-moments-coincide : (bits : ℕ) (t : List ℕ) {r q : ℕ} {a b : List ℕ} → HandsMoment bits t r a → HandsMoment bits t q b → (r ≡ q) × (a ≡ b)
+hand-moments-coincide bits t {r} {a = a} f g =
+    let e = said-one (accepted bits) bits (f .0) (g .0) (f .1 .0) (g .1 .0) in
+    let h : Hands momentWidth t (g .0) r a = rw e at (f .1 .1) in
+    hands-coincide momentWidth t (g .0) h (g .1 .1)
 
 -- a refused one leaves it as found
 pub result-as-found : (width : ℕ) (t : List ℕ) (x : Said) → 0 < codeOf (lentSays width (length t) x) → lentLeaves width t x ≡ t

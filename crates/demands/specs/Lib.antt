@@ -6,5 +6,6 @@ pub mod Tables
 pub mod Demand3
 pub mod RoundTrip
 pub mod Results
+pub mod Limits
 pub mod Cases
 pub mod Laws

@@ -1,4 +1,4 @@
--- A result that is more than a place goes into a lent table of numbers, "from its start, later entries as they were".
+-- A result that is more than a place goes into a lent table of numbers: docs/DECISIONS.md, 51.
 use Prim.Native.Nat.{ℕ}
 use mathlib.Core.Path.{_≡_}
 use mathlib.Core.List.{List}
@@ -29,13 +29,13 @@ momentWidth = 4
 abbrev pub valueWidth : ℕ
 valueWidth = 5
 
--- what a call answers that has a table of so many numbers to fill: 14 at 0 where it is too small, "after all other refusals"
+-- what a call answers that has a table of so many numbers to fill: 14 at 0 where it is too small, "14 last"
 unfoldable pub lentSays : ℕ → ℕ → Said → Outcome
 lentSays width room (Done n, vs) = pick (leb width room) (Done n) (No Fault.Table 0)
 lentSays width room (No c q, vs) = No c q
 lentSays width room (Given c q, vs) = Given c q
 
--- the table at exit
+-- the table at exit, filled from its start: "Later entries stay as they were"
 unfoldable pub lentLeaves : ℕ → List ℕ → Said → List ℕ
 lentLeaves width t (Done n, vs) = pick (leb width (length t)) (put t 0 vs) t
 lentLeaves width t (No c q, vs) = t

@@ -1,4 +1,4 @@
--- A value that is given as a table of numbers, "the case, then what it holds".
+-- A value that is given as a table of numbers, its case and then what it holds: docs/DECISIONS.md, 51 and 52.
 use Prim.Native.Nat.{ℕ, _^_}
 use mathlib.Core.Bool.{Bool, _&&_}
 use mathlib.Core.List.{List}
@@ -39,6 +39,6 @@ byDates starts ends after before = pick (isFlag starts && isFlag ends) (Dates (s
 unfoldable pub byCase : ℕ → ℕ → ℕ → ℕ → ℕ → Value
 byCase n x y a b = pick (eqb n 0) Marker (pick (eqb n 1) (bySimple x) (pick (eqb n 2) (bySize x y) (pick (eqb n 3) (byDates x y a b) noValue)))
 
--- "numbers past the fifth" are not looked at
+-- the value that a table says; numbers past the fifth are not looked at
 unfoldable pub valueFrom : List ℕ → Value
 valueFrom t = pick (leb valueWidth (length t)) (byCase (getD t 0 0) (getD t 1 0) (getD t 2 0) (getD t 3 0) (getD t 4 0)) noValue

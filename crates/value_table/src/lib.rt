@@ -48,16 +48,9 @@ fn put_span(t: &mut [u64], v: Span) -> Outcome
 {
     let starts = bit_of(v.starts);
     let ends = bit_of(v.ends);
-    put_numbers(
-        t,
-        &[
-            3,
-            starts,
-            ends,
-            f64::to_bits(v.after),
-            f64::to_bits(v.before),
-        ],
-    )
+    let after = f64::to_bits(v.after);
+    let before = f64::to_bits(v.before);
+    put_numbers(t, &[3, starts, ends, after, before])
 }
 
 // A value by its case and what it holds.
@@ -137,25 +130,25 @@ fn dates_from(starts: u64, ends: u64, after: u64, before: u64) -> Value
 }
 
 // The value that a table says, or one that is refused as it.
-fn value_from(t: &[u64]) -> Value
-    ensures { λ r. ⌜ Alike r (valueFrom (now (t .entry))) ⌝ }
+fn value_from(table: &[u64]) -> Value
+    ensures { λ r. ⌜ Alike r (valueFrom (now (table .entry))) ⌝ }
 {
-    if t.len() < 5 {
+    if table.len() < 5 {
         return Value::Words(0);
     }
-    match t[0] {
+    match table[0] {
         0 => Value::Marker,
-        1 => simple_from(t[1]),
-        2 => size_from(t[1], t[2]),
-        3 => dates_from(t[1], t[2], t[3], t[4]),
+        1 => simple_from(table[1]),
+        2 => size_from(table[1], table[2]),
+        3 => dates_from(table[1], table[2], table[3], table[4]),
         _ => Value::Words(0),
     }
 }
 
 // The value that a table says as the data of an identifier in an edition, written at the start of a buffer.
-pub fn put_value(edition: u64, identifier: u32, t: &[u64], buf: &mut [u8]) -> Outcome
-    ensures { λ r. ⌜ (r ≡ putSays (putting edition identifier (valueFrom (now (t .entry))) (length (now (buf .entry))))) × (now (buf .exit) ≡ putLeaves (now (buf .entry)) (putting edition identifier (valueFrom (now (t .entry))) (length (now (buf .entry))))) ⌝ }
+pub fn put_value(edition: u64, identifier: u32, table: &[u64], buf: &mut [u8]) -> Outcome
+    ensures { λ r. ⌜ (r ≡ putSays (putting edition identifier (valueFrom (now (table .entry))) (length (now (buf .entry))))) × (now (buf .exit) ≡ putLeaves (now (buf .entry)) (putting edition identifier (valueFrom (now (table .entry))) (length (now (buf .entry))))) ⌝ }
 {
-    let v = value_from(t);
+    let v = value_from(table);
     put::put_value(edition, identifier, v, buf)
 }

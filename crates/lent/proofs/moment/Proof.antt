@@ -7,16 +7,16 @@ use Rattle.lent.proofs.moment.Statement.{statement}
 use Rattle.lent.proofs.moment.Tie as tie
 
 cast-t12 : tie.Need-cast-t12
-cast-t12 c = omega (arith, moment-narrow _ _ _ (c .before .before .before .before .before .moment-of .ensures) (c .before .before .before .m .given .1) .year)
+cast-t12 c = let n = moment-narrow _ _ _ (c .before .before .before .before .before .moment-of .ensures) (c .before .before .before .m .given .1) in omega (arith, n .year, n .month, n .day, n .of-day)
 
 cast-t13 : tie.Need-cast-t13
-cast-t13 c = omega (arith, moment-narrow _ _ _ (c .before .before .before .before .before .before .moment-of .ensures) (c .before .before .before .before .m .given .1) .month)
+cast-t13 c = let n = moment-narrow _ _ _ (c .before .before .before .before .before .before .moment-of .ensures) (c .before .before .before .before .m .given .1) in omega (arith, n .year, n .month, n .day, n .of-day)
 
 cast-t14 : tie.Need-cast-t14
-cast-t14 c = omega (arith, moment-narrow _ _ _ (c .before .before .before .before .before .before .before .moment-of .ensures) (c .before .before .before .before .before .m .given .1) .day)
+cast-t14 c = let n = moment-narrow _ _ _ (c .before .before .before .before .before .before .before .moment-of .ensures) (c .before .before .before .before .before .m .given .1) in omega (arith, n .year, n .month, n .day, n .of-day)
 
 cast-t15 : tie.Need-cast-t15
-cast-t15 c = omega (arith, moment-narrow _ _ _ (c .before .before .before .before .before .before .before .moment-of .ensures) (c .before .before .before .before .before .m .given .1) .of-day)
+cast-t15 c = let n = moment-narrow _ _ _ (c .before .before .before .before .before .before .before .moment-of .ensures) (c .before .before .before .before .before .m .given .1) in omega (arith, n .year, n .month, n .day, n .of-day)
 
 returns : tie.Need-returns
 unfolding Says

@@ -6,7 +6,7 @@ use Rattle.rule_deck.proofs.rule_deck_kind.Tie as tie
 use Rattle.rule_deck.proofs.rule_deck_kind.Lts as lts
 
 pack-requires : tie.Need-pack-requires
-pack-requires c κs = let a = c .before .before .before .before .before .args in result-fits _ _ _ (c .before .before .kind .ensures) (kind-small (a .edition) (a .identifier))
+pack-requires c κs = result-fits _ _ _ (c .before .before .kind .ensures) (kind-small _ _)
 
 returns : tie.Need-returns
 returns c = result-sent _ _ _ (c .before .before .before .kind .ensures) (c .pack .ensures)

@@ -7,7 +7,7 @@ use Rattle.rule_deck.proofs.rule_deck_value.Tie as tie
 use Rattle.rule_deck.proofs.rule_deck_value.Lts as lts
 
 pack-requires : tie.Need-pack-requires
-pack-requires c κs = let a = c .before .before .before .before .before .before .args in result-fits _ _ _ (c .before .before .value .ensures) (value-small (a .edition) (a .identifier) (a .s .now) (bytes-all (a .s .now) (c .before .before .before .before .before .shared-slice-known .given)))
+pack-requires c κs = result-fits _ _ _ (c .before .before .value .ensures) (value-small _ _ _ (bytes-all (c .before .before .before .before .before .before .args .s .now) (c .before .before .before .before .before .shared-slice-known .given)))
 
 returns : tie.Need-returns
 returns c = result-sent _ _ _ (c .before .before .before .value .ensures) (c .pack .ensures)

@@ -1,16 +1,15 @@
-use mathlib.Core.Path.{refl, ap}
 use Rattle.date.proofs.Floats.{float-no-nan}
-use Rattle.value_table.specs.Laws.Table.{span-row}
 use Rattle.lent.specs.Laws.Lent.{lent-as}
+use Rattle.value_table.specs.Laws.Table.{span-row}
 use borrow.Author.Needs.{needs}
 use Rattle.value_table.proofs.put_span.Statement.{statement}
 use Rattle.value_table.proofs.put_span.Tie as tie
 
-float-to-bits-t8 : tie.Need-float-to-bits-t8
-float-to-bits-t8 c = float-no-nan _ (c .before .before .before .before .before .pre .0)
+float-to-bits-after : tie.Need-float-to-bits-after
+float-to-bits-after c = float-no-nan _ (c .before .before .before .before .pre .0)
 
-float-to-bits-t9 : tie.Need-float-to-bits-t9
-float-to-bits-t9 c = float-no-nan _ (c .before .before .before .before .before .before .pre .1)
+float-to-bits-before : tie.Need-float-to-bits-before
+float-to-bits-before c = float-no-nan _ (c .before .before .before .before .before .pre .1)
 
 returns : tie.Need-returns
 returns c = lent-as _ _ _ (c .before .before .put-numbers .ensures) (span-row (c .before .before .before .before .before .before .before .before .before .before .args .v) (c .before .before .before .before .before .before .before .before .bit-of .ensures) (c .before .before .before .before .before .before .before .bit-of2 .ensures))
@@ -21,8 +20,8 @@ put-span-spec =
     (tie.spec
     (λ c κs. search needs)
     (λ c κs. search needs)
-    float-to-bits-t8
-    float-to-bits-t9
+    float-to-bits-after
+    float-to-bits-before
     (λ c. search needs)
     (λ c κs. search needs)
     (λ c. search needs)
