@@ -2,8 +2,8 @@
 //!
 //!     compare [SEED] [NAME=NUMBER ..] [PART ..]
 //!
-//! Parts: identifiers, damages, decks, edits, results; all of them if none is named. `stride=N` takes every Nth of
-//! the identifiers that differ from one of the 35 in three bytes; `stride=0` takes all identifiers of 32 bits.
+//! Parts: identifiers, damages, decks, edits, results; all of them if none is named. `reach=3` takes the
+//! identifiers that differ from one of the 35 in up to three bytes, `reach=4` all of 32 bits.
 //! `edits=N`, `decks=N` and `results=N` say how many.
 mod baseline;
 #[path = "compare/damages.rs"]
@@ -53,7 +53,7 @@ fn part_named(name: &str) -> Part {
 
 pub struct Plan {
     pub seed: u64,
-    pub stride: u64,
+    pub reach: u64,
     pub edits: u64,
     pub decks: u64,
     pub results: u64,
@@ -61,13 +61,12 @@ pub struct Plan {
 }
 
 fn plan() -> Plan {
-    let mut plan =
-        Plan { seed: SEED, stride: 1, edits: 1_000_000, decks: 200_000, results: 200_000, parts: Vec::new() };
+    let mut plan = Plan { seed: SEED, reach: 2, edits: 1_000_000, decks: 200_000, results: 200_000, parts: Vec::new() };
     for argument in std::env::args().skip(1) {
         let (name, number) = argument.split_once('=').unwrap_or(("", &argument));
         match (name, number.parse()) {
             ("", Ok(n)) => plan.seed = n,
-            ("stride", Ok(n)) => plan.stride = n,
+            ("reach", Ok(n)) => plan.reach = n,
             ("edits", Ok(n)) => plan.edits = n,
             ("decks", Ok(n)) => plan.decks = n,
             ("results", Ok(n)) => plan.results = n,

@@ -1,7 +1,7 @@
 //! Identifiers: each in a deck of one rule with one element, in both editions, through the deck check.
 use crate::baseline::deck::{check, write};
 use crate::baseline::kind::{identifiers, judge};
-use crate::baseline::random::small_rule;
+use crate::baseline::random::{small_rule, Random};
 use crate::baseline::{coded, DESK, STUDIO};
 use crate::share::{hex, pieces, said};
 use crate::{door, Outcome, Plan};
@@ -81,31 +81,39 @@ fn with_two(identifier: u32, a: usize, b: usize) -> impl Iterator<Item = u32> {
     })
 }
 
-/// Every value below 2^24; every value that differs from one of the 35 in up to two bytes; and of those
-/// that differ in three, every one, or every `stride`th from a start that the seed gives.
+const MILLION: usize = 1 << 20;
+
+/// Every value below 2^16; every value that differs from one of the 35 in up to two bytes; a million random ones.
 fn near(plan: &Plan) -> Outcome {
-    let below = pieces(1 << 8, |i| compare_each((0..1 << 16).map(|low| (i << 16) as u32 + low)))?;
+    let below = compare_each(0..1 << 16)?;
     let ids = identifiers();
     let pairs = [(0, 1), (0, 2), (0, 3), (1, 2), (1, 3), (2, 3)];
     let two = pieces(ids.len() * 6, |i| {
         let (a, b) = pairs[i % 6];
         compare_each(with_two(ids[i / 6], a, b))
     })?;
-    let kept = kept_bytes();
-    let stride = plan.stride as usize;
-    let three = pieces(kept.len() * 256, |i| {
-        let (at, byte) = kept[i / 256];
-        let start = (plan.seed as usize + i) % stride;
-        compare_each((start..1 << 16).step_by(stride).map(|low| with_byte(at, byte, i % 256, low as u32)))
+    let random = pieces(16, |i| {
+        let mut random = Random::new(plan.seed + i as u64);
+        compare_each((0..MILLION / 16).map(|_| random.next() as u32))
     })?;
-    println!("compare: identifiers: {below} below 2^24, {two} by two bytes, {three} by three bytes, every {stride}");
-    Ok(below + two + three)
+    println!("compare: identifiers: {below} below 2^16, {two} by two bytes, {random} random");
+    Ok(below + two + random)
 }
 
-/// All values of 32 bits with stride 0, else those near the 35.
+/// Every value that differs from one of the 35 in up to three bytes.
+fn farther() -> Outcome {
+    let kept = kept_bytes();
+    pieces(kept.len() * 256, |i| {
+        let (at, byte) = kept[i / 256];
+        compare_each((0..1 << 16).map(|low| with_byte(at, byte, i % 256, low)))
+    })
+}
+
+/// By how many bytes a value may differ from one of the 35: 2, 3, or 4, which is all values of 32 bits.
 pub fn all(plan: &Plan) -> Outcome {
-    match plan.stride {
-        0 => every(),
+    match plan.reach {
+        4 => every(),
+        3 => farther(),
         _ => near(plan),
     }
 }

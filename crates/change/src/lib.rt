@@ -52,7 +52,7 @@ fn rename_at(buf: &mut [u8], n: usize, a: usize, e: usize, name: &[u8]) -> Outco
     if buf.len() < new {
         return Outcome::No(Fault::Room, 0);
     }
-    buffer::open(buf, n, a + 4, e, len);
+    shift::open(buf, n, a + 4, e, len);
     parts::put_text(buf, a + 4, name);
     Outcome::Done(new)
 }

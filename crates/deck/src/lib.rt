@@ -43,7 +43,7 @@ fn rules_at(s: &[u8], at: usize, product: Product, n: u64) -> Read
     let mut t = 0;
     let mut p = at;
     while i < n {
-        let r = rule::rule_at(s, p, product, i);
+        let r = whole_rule::rule_at(s, p, product, i);
         let Read::Got(v, q) = r else {
             return r;
         };

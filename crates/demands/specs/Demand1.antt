@@ -30,8 +30,8 @@ use Rattle.rule.specs.Rule.{Rule}
 use Rattle.deck.specs.Deck.{readAs, readDeck, answered, scanned, scanSays}
 use Rattle.tables.specs.Tables.{tabled, readSays, rulesLeft, rulesAfter, elementsLeft, elementsAfter}
 use Rattle.view.specs.View.{viewSays, nameView}
-use Rattle.view.specs.Word.{wordView}
-use Rattle.view.specs.Fixed.{fieldsAnswer}
+use Rattle.word_view.specs.Word.{wordView}
+use Rattle.fixed.specs.Fixed.{fieldsAnswer}
 use Rattle.plan.specs.Edit.{Edit, Plan, become, refuse, refuseGiven, planned, says, leaves, Edits}
 use Rattle.plan.specs.Handed.{Handed}
 use Rattle.start.specs.Start.{startSays, startLeaves}

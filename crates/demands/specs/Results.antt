@@ -31,7 +31,7 @@ use Rattle.value.specs.Value.{valueIn, valueCase, valueAnswer, valueOf}
 use Rattle.value.specs.Laws.Dates.{value-has, has-is}
 use Rattle.put.specs.Plan.{putting, planKind, planData, isOf, lacks, write, deny}
 use Rattle.lent.specs.Lent.{valueWidth, lentLeaves}
-use Rattle.value_table.specs.Table.{noValue, bySimple, bySize, byDates, byCase, valueFrom}
+use Rattle.put_table.specs.Table.{noValue, bySimple, bySize, byDates, byCase, valueFrom}
 use Rattle.demands.specs.RoundTrip.{alone, HandedValue, value-writes-back}
 
 -- the numbers of a value, put at the start of a table with room for every case, say that value

@@ -18,7 +18,7 @@ use Rattle.deck.specs.Deck.{readAs}
 use Rattle.deck.specs.Written.{startOf}
 use Rattle.view.specs.Asked.{asked}
 use Rattle.view.specs.View.{shown, nameView}
-use Rattle.view.specs.Word.{wordView}
+use Rattle.word_view.specs.Word.{wordView}
 use Rattle.demands.specs.Places.{UnitsOf, elementStart}
 use Rattle.demands.specs.Laws.Places.{stands-in, string-units, word-units, words-row, rule-stands, element-stands}
 

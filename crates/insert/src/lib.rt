@@ -57,8 +57,8 @@ fn open_first(buf: &mut [u8], n: usize, m: u64, b: usize, len: usize)
         return;
     }
     let head = e + 26;
-    buffer::open(buf, n, head, head + 18, len + 2);
-    buffer::move_up(buf, 7, head + len, len);
+    shift::open(buf, n, head, head + 18, len + 2);
+    shift::move_up(buf, 7, head + len, len);
     buffer::put_number(buf, e + 20 + len, 4, (b - e - 40) as u64);
     parts::put_head(buf, head + len, 1);
 }
@@ -69,7 +69,7 @@ fn open_place(buf: &mut [u8], n: usize, k: u64, m: u64, a: usize, b: usize, len:
     ensures { λ _. ⌜ Opens n k m a b len (now (buf .entry)) (now (buf .exit)) ⌝ }
 {
     if lost_at(k, m) == 0 {
-        buffer::open(buf, n, a, a, len);
+        shift::open(buf, n, a, a, len);
         return;
     }
     open_first(buf, n, m, b, len);

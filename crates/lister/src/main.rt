@@ -1,13 +1,13 @@
 // Lists the deck on standard input, read as Studio: document 01, "One deck whole".
+use fixed::Fielded;
 use format::Outcome;
 use libc::STDIN_FILENO;
 use libc::STDOUT_FILENO;
-use view::Fielded;
 use view::View;
 ghost use Prim.Native.Nat.{_≤_, _<_, _^_};
 ghost use mathlib.Core.Path.{_≡_};
 ghost use lib.ListN.{length};
-ghost use Rattle.view.specs.Fixed.{fixedFields};
+ghost use Rattle.fixed.specs.Fixed.{fixedFields};
 ghost use Rattle.view.specs.View.{nameView};
 ghost use Rattle.line.specs.Line.{Lined};
 ghost use Rattle.lister.specs.Listed.{entry as Listed·entry, isOn, unitsOf, ruleListed, elementListed};
@@ -27,7 +27,7 @@ fn entry(table: &[u32], i: usize, j: usize) -> u32
 fn is_on(s: &[u8], k: u64) -> bool
     ensures { λ r. ⌜ r ≡ isOn (fixedFields 2 k (now (s .entry))) ⌝ }
 {
-    let f = view::fixed(2, s, k);
+    let f = fixed::fixed(2, s, k);
     match f {
         Fielded::Is(fields) => fields.on,
         Fielded::No(_, _) => false,

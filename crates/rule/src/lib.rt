@@ -1,15 +1,11 @@
-// Rules: their fields in order, from a part of the deck that starts at the rule.
+// A rule's head, and an element at its place among those of its rule.
 use format::Fault;
 use format::Read;
 use kind::Product;
 ghost use mathlib.Core.Path.{_≡_};
-ghost use Prim.Native.Nat.{_+_};
-ghost use lib.Dec.{eqb};
-ghost use lib.ListN.{length};
-ghost use Rattle.format.specs.Combinators.{each, sized};
 ghost use Rattle.element.specs.Laws.Element.{named};
 ghost use Rattle.format.specs.Laws.Seen.{seen, none};
-ghost use Rattle.rule.specs.Rule.{separator, classHead, head, placed, body, fromUnknown4, fromUnknown2, rule, elementsIn};
+ghost use Rattle.rule.specs.Rule.{separator, classHead, head, placed};
 ghost use Rattle.rule.specs.Laws.Rule.{leadAt};
 
 // The fixed fields of a rule; the signature is with Unknown1.
@@ -77,132 +73,4 @@ pub fn placed_at(s: &[u8], at: usize, product: Product, j: u64) -> Read
         return b;
     };
     identified::element_at(s, p, product)
-}
-
-// n elements of a rule.
-fn elements_at(s: &[u8], at: usize, product: Product, n: u64) -> Read
-    ensures { λ r. ⌜ r ≡ seen none (each (placed product) 0 n) (now (s .entry)) at ⌝ }
-{
-    let mut j = 0;
-    let mut p = at;
-    while j < n {
-        let r = placed_at(s, p, product, j);
-        let Read::Got(_, q) = r else {
-            return r;
-        };
-        p = q;
-        j += 1;
-    }
-    Read::Got(0, p)
-}
-
-// The number of elements of rule i, its head and its elements; the value is their number, and so up to the rule.
-fn body_at(s: &[u8], at: usize, product: Product, i: u64) -> Read
-    ensures { λ r. ⌜ r ≡ seen length (body product i) (now (s .entry)) at ⌝ }
-{
-    let c = field::count16_at(s, at, 1, 64);
-    let Read::Got(n, p) = c else {
-        return c;
-    };
-    let h = head_at(s, p, i);
-    let Read::Got(_, q) = h else {
-        return h;
-    };
-    let x = elements_at(s, q, product, n);
-    let Read::Got(_, e) = x else {
-        return x;
-    };
-    Read::Got(n, e)
-}
-
-// Whether `size` bytes lie between two places.
-fn spans(from: usize, to: usize, size: u64) -> bool
-    ensures { λ r. ⌜ r ≡ eqb (from + size) to ⌝ }
-{
-    if to < from {
-        return false;
-    }
-    (to - from) as u64 == size
-}
-
-// The Data Size of rule i and what it counts.
-fn sized_at(s: &[u8], at: usize, product: Product, i: u64) -> Read
-    ensures { λ r. ⌜ r ≡ seen length (sized Fault.Size (body product i)) (now (s .entry)) at ⌝ }
-{
-    let d = wire::u32_at(s, at);
-    let Read::Got(size, p) = d else {
-        return d;
-    };
-    let rest = body_at(s, p, product, i);
-    let Read::Got(n, q) = rest else {
-        return rest;
-    };
-    if spans(p, q, size) {
-        return Read::Got(n, q);
-    }
-    Read::No(Fault::Size, at)
-}
-
-// Unknown4, Unknown5, and from Data Size on.
-fn unknown4_at(s: &[u8], at: usize, product: Product, i: u64) -> Read
-    ensures { λ r. ⌜ r ≡ seen (λ f. length (f .1 .1)) (fromUnknown4 product i) (now (s .entry)) at ⌝ }
-{
-    let a = wire::u32_at(s, at);
-    let Read::Got(_, p) = a else {
-        return a;
-    };
-    let b = wire::u32_at(s, p);
-    let Read::Got(_, q) = b else {
-        return b;
-    };
-    sized_at(s, q, product, i)
-}
-
-// Unknown2, Unknown3, and from Unknown4 on.
-fn unknown2_at(s: &[u8], at: usize, product: Product, i: u64) -> Read
-    ensures { λ r. ⌜ r ≡ seen (λ f. length (f .1 .1 .1 .1)) (fromUnknown2 product i) (now (s .entry)) at ⌝ }
-{
-    let a = wire::u32_at(s, at);
-    let Read::Got(_, p) = a else {
-        return a;
-    };
-    let b = wire::u32_at(s, p);
-    let Read::Got(_, q) = b else {
-        return b;
-    };
-    unknown4_at(s, q, product, i)
-}
-
-// Rule i at the start of a part.
-fn read_rule(rest: &[u8], product: Product, i: u64) -> Read
-    ensures { λ r. ⌜ r ≡ seen elementsIn (rule product i) (now (rest .entry)) 0 ⌝ }
-{
-    let a = wire::u32_at(rest, 0);
-    let Read::Got(_, p) = a else {
-        return a;
-    };
-    let name = text::string_at(rest, p);
-    let Read::Got(_, q) = name else {
-        return name;
-    };
-    let on = field::flag_at(rest, q);
-    let Read::Got(_, e) = on else {
-        return on;
-    };
-    unknown2_at(rest, e, product, i)
-}
-
-// Rule i at a place.
-pub fn rule_at(s: &[u8], at: usize, product: Product, i: u64) -> Read
-    ensures { λ r. ⌜ r ≡ seen elementsIn (rule product i) (now (s .entry)) at ⌝ }
-{
-    if s.len() < at {
-        return Read::No(Fault::Cut, at);
-    }
-    let rest = &s[at..];
-    let r = read_rule(rest, product, i);
-    match r {
-        Read::Got(v, n) => Read::Got(v, at + n),
-        Read::No(c, p) => Read::No(c, at + p),
-    }
 }

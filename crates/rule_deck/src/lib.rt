@@ -9,12 +9,12 @@ ghost use Rattle.kind.specs.Kinds.{editionOf, kindOf};
 ghost use Rattle.deck.specs.Deck.{answered, readDeck};
 ghost use Rattle.tables.specs.Tables.{readSays, rulesAfter, elementsAfter};
 ghost use Rattle.view.specs.View.{viewSays, partSays, nameView};
-ghost use Rattle.view.specs.Word.{wordView};
-ghost use Rattle.view.specs.Fixed.{fieldsAnswer};
+ghost use Rattle.word_view.specs.Word.{wordView};
+ghost use Rattle.fixed.specs.Fixed.{fieldsAnswer};
 ghost use Rattle.value.specs.Value.{valueAnswer};
 ghost use Rattle.put.specs.Plan.{putting, putSays, putLeaves};
 ghost use Rattle.lent.specs.Lent.{kindWidth, fieldsWidth, partWidth, valueWidth};
-ghost use Rattle.value_table.specs.Table.{valueFrom};
+ghost use Rattle.put_table.specs.Table.{valueFrom};
 ghost use Rattle.plan.specs.Edit.{switch, rename, remove, insert, addRule, addElement, addWord};
 ghost use Rattle.start.specs.Start.{startSays, startLeaves};
 ghost use Rattle.rule_deck.specs.Sent.{version, Hands, HandsMoment, Sends, fieldsOf};
@@ -73,7 +73,7 @@ pub extern "C" fn rule_deck_name(edition: u64, deck: &[u8], k: u64) -> u64
 pub extern "C" fn rule_deck_word(edition: u64, deck: &[u8], k: u64, e: u64, w: u64) -> u64
     ensures { λ r. ⌜ r ≡ packed (viewSays (wordView edition k e w (now (deck .entry)))) ⌝ }
 {
-    let v = view::find_word(edition, deck, k, e, w);
+    let v = word_view::find_word(edition, deck, k, e, w);
     pack(view::place_of(v))
 }
 
@@ -90,7 +90,7 @@ pub extern "C" fn rule_deck_kind(edition: u64, identifier: u32, kind: &mut [u32]
 pub extern "C" fn rule_deck_fields(edition: u64, deck: &[u8], k: u64, fields: &mut [u32]) -> u64
     ensures { λ r. ⌜ Hands fieldsWidth (now (fields .entry)) (fieldsAnswer edition k (now (deck .entry))) r (now (fields .exit)) ⌝ }
 {
-    pack(lent::fields(edition, deck, k, fields))
+    pack(lent_rule::fields(edition, deck, k, fields))
 }
 
 // The name of rule k as a part of the deck, by its numbers.
@@ -98,7 +98,7 @@ pub extern "C" fn rule_deck_fields(edition: u64, deck: &[u8], k: u64, fields: &m
 pub extern "C" fn rule_deck_name_part(edition: u64, deck: &[u8], k: u64, part: &mut [u32]) -> u64
     ensures { λ r. ⌜ Hands partWidth (now (part .entry)) (partSays (nameView edition k (now (deck .entry)))) r (now (part .exit)) ⌝ }
 {
-    pack(lent::name_part(edition, deck, k, part))
+    pack(lent_rule::name_part(edition, deck, k, part))
 }
 
 // Word w of element e of rule k as a part of the deck, by its numbers.
@@ -113,7 +113,7 @@ pub extern "C" fn rule_deck_word_part(
 ) -> u64
     ensures { λ r. ⌜ Hands partWidth (now (part .entry)) (partSays (wordView edition k e w (now (deck .entry)))) r (now (part .exit)) ⌝ }
 {
-    pack(lent::word_part(edition, deck, k, e, w, part))
+    pack(lent_rule::word_part(edition, deck, k, e, w, part))
 }
 
 // What the date of these bits says.
@@ -142,7 +142,7 @@ pub extern "C" fn rule_deck_put_value(
 ) -> u64
     ensures { λ r. ⌜ (r ≡ packed (putSays (putting edition identifier (valueFrom (now (value .entry))) (length (now (buf .entry)))))) × (now (buf .exit) ≡ putLeaves (now (buf .entry)) (putting edition identifier (valueFrom (now (value .entry))) (length (now (buf .entry))))) ⌝ }
 {
-    pack(value_table::put_value(edition, identifier, value, buf))
+    pack(put_table::put_value(edition, identifier, value, buf))
 }
 
 // Starts an empty deck.
@@ -230,7 +230,7 @@ pub extern "C" fn rule_deck_add_rule(
         unknown4,
         unknown5,
     };
-    pack(add::add_rule(edition, buf, stated as usize, name, fields, identifier, s))
+    pack(add_rule::add_rule(edition, buf, stated as usize, name, fields, identifier, s))
 }
 
 // Adds an element to the last rule.
@@ -244,7 +244,7 @@ pub extern "C" fn rule_deck_add_element(
 ) -> u64
     ensures { λ r. ⌜ Sends edition stated (addElement identifier (now (s .entry))) (now (buf .entry)) r (now (buf .exit)) ⌝ }
 {
-    pack(add::add_element(edition, buf, stated as usize, identifier, s))
+    pack(add_element::add_element(edition, buf, stated as usize, identifier, s))
 }
 
 // Adds a word to the list that is the last element of the last rule.

@@ -333,9 +333,9 @@ fn fill(v: &[u8], s: &[u8], table: &mut [u32]) -> Outcome {
     match byte(v, 0) {
         1 => lent::kind(edition, narrow(k), table),
         4 => lent::moment(edition, table),
-        9 => lent::fields(edition, s, k, table),
-        18 => lent::name_part(edition, s, k, table),
-        _ => lent::word_part(edition, s, k, number(v, 2), number(v, 3), table),
+        9 => lent_rule::fields(edition, s, k, table),
+        18 => lent_rule::name_part(edition, s, k, table),
+        _ => lent_rule::word_part(edition, s, k, number(v, 2), number(v, 3), table),
     }
 }
 
@@ -426,8 +426,8 @@ fn call_deck(v: &[u8], s: &[u8], got: &mut [u8]) -> Said
             got,
         ),
         _ => call_view(
-            view::word_place(edition, s, k, e, w),
-            view::word(edition, s, k, e, w),
+            word_view::word_place(edition, s, k, e, w),
+            word_view::word(edition, s, k, e, w),
             got,
         ),
     }
@@ -448,7 +448,7 @@ fn put_given(v: &[u8], table: &mut [u64], buf: &mut [u8]) -> Outcome
     requires { ⌜ length (now table) ≤ 253 ⌝ }
 {
     numbers_in(v, table);
-    value_table::put_value(number(v, 0), narrow(number(v, 1)), table, buf)
+    put_table::put_value(number(v, 0), narrow(number(v, 1)), table, buf)
 }
 
 // How many they are.
@@ -483,7 +483,7 @@ fn grow(v: &[u8], buf: &mut [u8], second: &[u8], third: &[u8]) -> Outcome {
     let edition = number(v, 0);
     let n = number(v, 1) as usize;
     match byte(v, 0) {
-        15 => add::add_rule(
+        15 => add_rule::add_rule(
             edition,
             buf,
             n,
@@ -492,7 +492,7 @@ fn grow(v: &[u8], buf: &mut [u8], second: &[u8], third: &[u8]) -> Outcome {
             narrow(number(v, 8)),
             third,
         ),
-        16 => add::add_element(edition, buf, n, narrow(number(v, 2)), second),
+        16 => add_element::add_element(edition, buf, n, narrow(number(v, 2)), second),
         _ => word::add_word(edition, buf, n, second),
     }
 }

@@ -1,4 +1,2 @@
 pub mod Asked
 pub mod View
-pub mod Fixed
-pub mod Word

@@ -1,5 +1,3 @@
 pub mod Asked
 pub mod View
-pub mod Fixed
-pub mod Word
 pub mod Laws

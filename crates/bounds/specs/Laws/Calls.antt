@@ -29,13 +29,13 @@ use Rattle.plan.specs.Handed.{Handed}
 use Rattle.tables.specs.Tables.{ruleWidth, elementWidth, inTables, tabled, readSays}
 use Rattle.view.specs.declared.View.{View}
 use Rattle.view.specs.declared.View.the-variants as View
-use Rattle.view.specs.declared.Fielded.{Fielded}
-use Rattle.view.specs.declared.Fielded.the-variants as Fielded
+use Rattle.fixed.specs.declared.Fielded.{Fielded}
+use Rattle.fixed.specs.declared.Fielded.the-variants as Fielded
 use Rattle.view.specs.Asked.{asked, askedBy, askedOf, askedFirst}
 use Rattle.view.specs.View.{nameAt, nameView, viewSays}
-use Rattle.view.specs.Word.{wordAt, ruleWord, wordView}
-use Rattle.view.specs.Laws.Word.{elementWord}
-use Rattle.view.specs.Fixed.{fixedAt, fixedFields, fieldsSay, fieldsAnswer}
+use Rattle.word_view.specs.Word.{wordAt, ruleWord, wordView}
+use Rattle.word_view.specs.Laws.Word.{elementWord}
+use Rattle.fixed.specs.Fixed.{fixedAt, fixedFields, fieldsSay, fieldsAnswer}
 use Rattle.bounds.specs.Laws.Refused.{Only, NotLarge, Each, refused-as, as-refused, OfGift, only-planned}
 use Rattle.bounds.specs.Calls.{judges, owns, Gift, nothing, aDeck, anElement, givenTo, checkNumbers, readNumbers, viewNumbers, eachExactly, giftNumbers, laterNumbers, editNumbers}
 use Rattle.bounds.specs.Laws.Places.{BytesOf, given-bytes}

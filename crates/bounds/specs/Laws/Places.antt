@@ -33,8 +33,8 @@ use Rattle.view.specs.declared.View.the-variants.{At, No}
 use Rattle.view.specs.Asked.{asked, askedBy, askedOf, askedFirst}
 use Rattle.view.specs.Laws.View.{Inside}
 use Rattle.view.specs.View.{nameAt, nameView, viewSays}
-use Rattle.view.specs.Word.{wordAt, ruleWord, wordView}
-use Rattle.view.specs.Laws.Word.{elementWord}
+use Rattle.word_view.specs.Word.{wordAt, ruleWord, wordView}
+use Rattle.word_view.specs.Laws.Word.{elementWord}
 use Rattle.bounds.specs.Calls.{most, judges, owns, Gift, nothing, aDeck, anElement, givenTo}
 use Rattle.bounds.specs.Laws.Data.{given-end}
 use Rattle.bounds.specs.Laws.Refused.{Only, NotLarge, Each, RefusedAs, refused-as, OfGift, only-planned}

@@ -33,10 +33,10 @@ use Rattle.put.specs.Plan.{Fitted, holds, lacks, fromSpan, fromValue, isOf, fit
 use Rattle.view.specs.declared.View.{View}
 use Rattle.view.specs.declared.View.the-variants as View
 use Rattle.view.specs.View.{viewSays, partSays, nameView}
-use Rattle.view.specs.Word.{wordView}
-use Rattle.view.specs.declared.Fielded.{Fielded}
-use Rattle.view.specs.declared.Fielded.the-variants as Fielded
-use Rattle.view.specs.Fixed.{fixedFields, fieldsSay, fieldsAnswer}
+use Rattle.word_view.specs.Word.{wordView}
+use Rattle.fixed.specs.declared.Fielded.{Fielded}
+use Rattle.fixed.specs.declared.Fielded.the-variants as Fielded
+use Rattle.fixed.specs.Fixed.{fixedFields, fieldsSay, fieldsAnswer}
 use Rattle.plan.specs.Given.{given, givenBy, withData}
 use Rattle.bounds.specs.Listed.{Numbers, exactly, allowed, Lists}
 use Rattle.bounds.specs.Calls.{elementNumbers, viewNumbers, kindNumbers, momentNumbers, valueNumbers, putNumbers}

@@ -1,5 +1,5 @@
 -- Laws of ../Lent.antt: a row that was put, a refusal that was handed on.
-use Prim.Native.Nat.{ℕ, _+_, _-_, _^_, _≤_, _<_}
+use Prim.Native.Nat.{ℕ, _-_, _^_, _≤_, _<_}
 use native.Mathlib.Omega.{arith}
 use mathlib.Core.Path.{_≡_, refl}
 use mathlib.Core.Bool.{Bool, true, false}
@@ -25,9 +25,6 @@ use Rattle.moment.specs.declared.Moment.{Moment}
 use Rattle.moment.specs.declared.Moment.the-variants.{At}
 use Rattle.moment.specs.Moment.{Says}
 use Rattle.moment.specs.Laws.One.{Shown, says-shown}
-use Rattle.view.specs.declared.View.{View}
-use Rattle.view.specs.declared.View.the-variants as View
-use Rattle.view.specs.Laws.View.{Inside}
 use Rattle.moment.proofs.Shift.{second-small, day-small}
 use Rattle.lent.specs.Lent.{lentSays, lentLeaves, Lends}
 
@@ -94,6 +91,3 @@ moment-narrow bits c second s e =
     let y = years-least (c .year - 100) in
     let n = second-small bits in
     record { year = omega (arith, f .on-day, d, y); month = omega (arith, f .valid .month-high); day = omega (arith, f .on-day, d); of-day = omega (arith, f .at, n) }
-
-pub within-at : {v : View} {a n len : ℕ} → Inside v len → v ≡ View.At a n → a + n ≤ len
-within-at i e = rw e at i

@@ -1,5 +1,5 @@
 use lib.ListN.{length}
-use Rattle.value_table.specs.Table.{valueFrom}
+use Rattle.put_table.specs.Table.{valueFrom}
 use Rattle.bounds.specs.Laws.Results.{put-small}
 use native.Mathlib.Omega.{arith}
 use mathlib.Core.Path.{ap, _∙_}

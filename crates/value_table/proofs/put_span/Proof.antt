@@ -1,6 +1,6 @@
 use Rattle.date.proofs.Floats.{float-no-nan}
 use Rattle.lent.specs.Laws.Lent.{lent-as}
-use Rattle.value_table.specs.Laws.Table.{span-row}
+use Rattle.value_table.specs.Laws.Case.{span-row}
 use borrow.Author.Needs.{needs}
 use Rattle.value_table.proofs.put_span.Statement.{statement}
 use Rattle.value_table.proofs.put_span.Tie as tie

@@ -1,4 +1,4 @@
-use Rattle.view.specs.Laws.View.{no-inside, name-unreached, name-is}
+use Rattle.view.specs.Laws.View.{no-inside, units-inside, name-unreached, name-is}
 use borrow.Author.Needs.{needs}
 use Rattle.view.proofs.name_at.Statement.{statement}
 use Rattle.view.proofs.name_at.Tie as tie
@@ -7,7 +7,7 @@ returns : tie.Need-returns
 returns c = (name-unreached _ _ _ (c .before .before .before .before .start-of .ensures) (c .before .before .enum-told .given .1), no-inside _ _ (c .no-view .ensures))
 
 returns-2 : tie.Need-returns-2
-returns-2 c = (name-is _ _ _ (c .before .before .before .before .before .start-of .ensures) (c .before .before .before .r .given .1) (c .before .name-end .ensures) (c .units-of .ensures .0), c .units-of .ensures .1)
+returns-2 c = (name-is _ _ _ (c .before .before .before .before .before .start-of .ensures) (c .before .before .before .r .given .1) (c .before .name-end .ensures) (c .units-of .ensures), units-inside _ _ (c .units-of .ensures))
 
 pub name-at-spec : {M : Type 1} → statement M
 name-at-spec =

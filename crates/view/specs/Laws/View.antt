@@ -1,15 +1,20 @@
 -- Laws of ../View.antt: how the code finds the name of a rule, and which part a view is.
-use Prim.Native.Nat.{ℕ, _+_, _-_, _*_, _/_, _≤_, _<_}
+use Prim.Native.Nat.{ℕ, _+_, _-_, _*_, _≤_, _<_}
 use native.Mathlib.Nat.{zero-add}
 use native.Mathlib.Omega.{arith}
-use mathlib.Core.Path.{_≡_, sym, ap, _∙_}
+use mathlib.Core.Path.{_≡_, refl, sym, ap, _∙_}
+use mathlib.Core.Bool.{Bool, true, false}
 use mathlib.Core.List.{List, []}
+use lib.Dec.{leb}
 use lib.ListN.{length, take, drop}
+use borrow.Author.Tests.{leb-true, le-leb, lt-leb}
 use Rattle.format.specs.declared.Fault.{Fault}
+use Rattle.format.specs.declared.Fault.the-variants as Fault
 use Rattle.format.specs.declared.Outcome.{Outcome}
 use Rattle.format.specs.declared.Outcome.the-variants as Outcome
 use Rattle.format.specs.declared.Read.{Read}
 use Rattle.format.specs.declared.Read.the-variants as Read
+use Rattle.format.specs.Format.{pick}
 use Rattle.format.specs.Laws.Back.{Where, stands-room}
 use Rattle.text.specs.Text.{stringLength, string}
 use Rattle.text.specs.Laws.Text.{string-length}
@@ -34,46 +39,82 @@ abbrev pub Inside : View → ℕ → Type 0
 Inside (At a n) len = a + n ≤ len
 Inside (No c q) len = Unit {0}
 
--- where n units were read that end at e, v is the view of them
-unfoldable pub Units : ℕ → Read → View → Type 0
-Units len t v = (n e : ℕ) → t ≡ Read.Got n e → 2 * n ≤ e → e ≤ len → v ≡ At (e - 2 * n) (2 * n)
+-- the units of a String that was read, n of them that end at e, where they lie within a slice
+unfoldable pub unitsOf : ℕ → Read → View
+unitsOf len (Read.Got n e) = pick (leb e len) (pick (leb (2 * n) e) (At (e - 2 * n) (2 * n)) (No Fault.Cut 0)) (No Fault.Cut 0)
+unitsOf len (Read.No c q) = No c q
 
 module _ (len : ℕ) {t : Read} where
-  pub units-are : {n e : ℕ} → t ≡ Read.Got n e → Units len t (At (e - 2 * n) (2 * n))
-  unfolding Units
-  units-are {n} {e} h m o k l x = let w : Read.Got n e ≡ Read.Got m o = sym h ∙ k in let y : n ≡ m = cc in let z : e ≡ o = cc in rw (y, z)
+  pub units-none : {v : View} {c : Fault} {q : ℕ} → t ≡ Read.No c q → v ≡ No c q → v ≡ unitsOf len t
+  unfolding unitsOf
+  units-none h i = rw h i
 
-  pub units-none : (v : View) {c : Fault} {q : ℕ} → t ≡ Read.No c q → Units len t v
-  unfolding Units
-  units-none v h m o k l x = absurd (let z : _≡_ {A = ℕ} 0 1 = cc in omega arith)
+  module _ {n e : ℕ} (h : t ≡ Read.Got n e) where
+    pub units-past : len < e → No Fault.Cut 0 ≡ unitsOf len t
+    unfolding unitsOf pick
+    units-past l = rw (h, lt-leb e len l)
 
-  pub units-past : (v : View) {n e : ℕ} → t ≡ Read.Got n e → len < e → Units len t v
-  unfolding Units
-  units-past v {n} {e} h i m o k l x = let w : Read.Got n e ≡ Read.Got m o = sym h ∙ k in let z : e ≡ o = cc in absurd (omega arith)
+    pub units-odd : e ≤ len → e < 2 * n → No Fault.Cut 0 ≡ unitsOf len t
+    unfolding unitsOf pick
+    units-odd k l = rw (h, le-leb e len k, lt-leb (2 * n) e l)
 
-  pub units-odd : (v : View) {n e : ℕ} → t ≡ Read.Got n e → e / 2 < n → Units len t v
-  unfolding Units
-  units-odd v {n} {e} h i m o k l x = let w : Read.Got n e ≡ Read.Got m o = sym h ∙ k in let y : n ≡ m = cc in let z : e ≡ o = cc in absurd (omega arith)
+    pub units-are : e ≤ len → 2 * n ≤ e → At (e - 2 * n) (2 * n) ≡ unitsOf len t
+    unfolding unitsOf pick
+    units-are k l = rw (h, le-leb e len k, le-leb (2 * n) e l)
 
   -- the units of a String that starts at q
-  pub units-of : (v : View) (q : ℕ) (us : List ℕ) → Units len t v → t ≡ Read.Got (length us) (q + length (string .write us)) → q + length (string .write us) ≤ len
+  pub units-of : {v : View} (q : ℕ) (us : List ℕ) → v ≡ unitsOf len t → t ≡ Read.Got (length us) (q + length (string .write us)) → q + length (string .write us) ≤ len
       → v ≡ At (q + length (stringLength .write (length us))) (2 * length us)
-  unfolding Units
-  units-of v q us w e l =
+  units-of q us w e l =
       let m = string-length us in
       let z : q + length (string .write us) - 2 * length us ≡ q + length (stringLength .write (length us)) = omega arith in
-      w (length us) (q + length (string .write us)) e (omega arith) l ∙ ap (λ (a : ℕ). At a (2 * length us)) z
+      w ∙ sym (units-are e l (omega arith)) ∙ ap (λ (a : ℕ). At a (2 * length us)) z
+
+pub units-inside : (len : ℕ) (t : Read) {v : View} → v ≡ unitsOf len t → Inside v len
+unfolding unitsOf pick
+units-inside len (Read.Got n e) w = rw w (go (leb e len) refl (leb (2 * n) e) refl)
+  where
+    go : (x : Bool) → leb e len ≡ x → (y : Bool) → leb (2 * n) e ≡ y → Inside (pick x (pick y (At (e - 2 * n) (2 * n)) (No Fault.Cut 0)) (No Fault.Cut 0)) len
+    go true f true g = let h = leb-true e len f in let i = leb-true (2 * n) e g in omega arith
+    go true f false g = tt
+    go false f y g = tt
+units-inside len (Read.No c q) w = rw w tt
+
+-- a view that lies within a slice; else it is refused
+unfoldable pub within : ℕ → View → View
+within len (At a n) = pick (leb (a + n) len) (At a n) (No Fault.Cut 0)
+within len (No c q) = No c q
+
+pub within-is : (len : ℕ) (v : View) → Inside v len → within len v ≡ v
+unfolding within pick
+within-is len (At a n) i = rw (le-leb (a + n) len i)
+within-is len (No c q) i = refl
+
+-- as the code judges it
+module _ (len : ℕ) {v : View} where
+  pub within-none : {c : Fault} {q : ℕ} → v ≡ No c q → within len v ≡ No c q
+  unfolding within
+  within-none h = rw h
+
+  module _ {a n : ℕ} (h : v ≡ At a n) where
+    pub within-past : len < a + n → within len v ≡ No Fault.Cut 0
+    unfolding within pick
+    within-past l = rw (h, lt-leb (a + n) len l)
+
+    pub within-at : a + n ≤ len → within len v ≡ At a n
+    unfolding within pick
+    within-at l = rw (h, le-leb (a + n) len l)
 
 -- r is what was told of the rule's start, t what its name was read as
 module _ (s : List ℕ) (k : ℕ) (v : View) {r : Read} where
   pub name-unreached : {c : Fault} {q : ℕ} → Reached s k k r → r ≡ Read.No c q → Tells s k nameAt v
   name-unreached w i p = finds-never p s k nameAt v w i
 
-  pub name-is : {u at : ℕ} {t : Read} → Reached s k k r → r ≡ Read.Got u at → t ≡ nameRead s at → Units (length s) t v → Tells s k nameAt v
+  pub name-is : {u at : ℕ} {t : Read} → Reached s k k r → r ≡ Read.Got u at → t ≡ nameRead s at → v ≡ unitsOf (length s) t → Tells s k nameAt v
   unfolding Where
   name-is {at = at} w i e h p = finds p s k nameAt v w i (λ x b.
       let y = rule-parts p k s at x (b .0) (b .1) in
-      units-of (length s) v (at + 4) (x .name) h (e ∙ name-read s at p k x b) (omega (arith, stands-room (rule p k) s at (b .1), y .ends)))
+      units-of (length s) (at + 4) (x .name) h (e ∙ name-read s at p k x b) (omega (arith, stands-room (rule p k) s at (b .1), y .ends)))
 
 -- a refusal handed on
 pub view-hands : {o : Outcome} {v : View} {c : Fault} {q : ℕ} → o ≡ Outcome.No c q → v ≡ noView o → v ≡ No c q
@@ -99,15 +140,14 @@ shown-at {a = a} {n = n} s h = let z : a + n - a ≡ n = omega arith in rw z (ap
 pub shown-no : {v : View} {c : Fault} {q : ℕ} (s : List ℕ) → v ≡ No c q → [] ≡ shown v s
 shown-no s h = ap (λ (x : View). shown x s) (sym h)
 
--- an empty part has the bytes of a refused view, wherever it lies; it is the view only where that starts
-pub shown-none : {v : View} {c : Fault} {q : ℕ} (s : List ℕ) (a : ℕ) → v ≡ No c q → take (a - a) (drop a s) ≡ shown v s
-shown-none s a h = let z : a - a ≡ 0 = omega arith in rw z (shown-no s h)
-
 pub from-at : {v : View} {a n : ℕ} (b o : ℕ) → v ≡ At a n → _≡_ {A = ℕ × ℕ} (b, a + o) (b, shownFrom v + o)
 from-at b o h = ap (λ (x : View). (b, shownFrom x + o)) (sym h)
 
 pub from-no : {v : View} {c : Fault} {q : ℕ} (b o : ℕ) → v ≡ No c q → _≡_ {A = ℕ × ℕ} (b, o) (b, shownFrom v + o)
 from-no b o h = rw (h, zero-add)
+
+pub part-none : {v : View} {c : Fault} {q : ℕ} (xs : List ℕ) (at : ℕ × ℕ) {ys : List ℕ} {from : ℕ × ℕ} → v ≡ No c q → ys ≡ [] → from ≡ at → PartOf v xs at ys from
+part-none xs at h e f = (e ∙ shown-no xs h, f ∙ from-no (at .0) (at .1) h)
 
 -- and what is asked of it
 pub part-as : {v w : View} (xs : List ℕ) (at : ℕ × ℕ) {ys : List ℕ} {from : ℕ × ℕ} → PartOf v xs at ys from → v ≡ w → PartOf w xs at ys from

@@ -42,7 +42,7 @@ use Rattle.plan.specs.Laws.Found.{MakesAs, Does}
 use Rattle.plan.specs.Laws.Last.{rules-none, among, as-many, on-none, on-last}
 use Rattle.plan.specs.Laws.Makes.{here-in, written-here, if-text, no-text, full, not-full, made-no, made-large, made-room, made-is}
 use Rattle.parts.specs.Laws.Text.{textBytes, textSize, text-size, text-is}
-use Rattle.add.specs.Laws.Element.{last-is, front-ends, size-ends, inner-more}
+use Rattle.add_element.specs.Laws.Element.{last-is, front-ends, size-ends, inner-more}
 use Rattle.word.specs.Laws.List.{lastList, leading, list-written, EndsInList, ends-in-list, list-none}
 
 -- 4 zero bytes and a String

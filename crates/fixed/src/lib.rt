@@ -1,0 +1,94 @@
+// The fixed fields of a rule of a deck.
+use deck::Scan;
+use format::Fault;
+use format::Outcome;
+use format::Read;
+use rule::Fields;
+ghost use mathlib.Core.Path.{_≡_};
+ghost use Rattle.view.specs.Laws.Asked.{Tells};
+ghost use Rattle.fixed.specs.Laws.Fixed.{Kept, noFields};
+ghost use Rattle.fixed.specs.Fixed.{fixedAt, fixedFields, fieldsSay, fieldsAnswer};
+
+// What the fixed fields of a rule are answered as.
+pub enum Fielded {
+    Is(Fields),
+    No(Fault, usize),
+}
+
+// A refusal as that of fixed fields.
+fn no_fields(o: Outcome) -> Fielded
+    ensures { λ v. ⌜ v ≡ noFields o ⌝ }
+{
+    match o {
+        Outcome::Done(n) => Fielded::No(Fault::Absent, n),
+        Outcome::No(c, p) => Fielded::No(c, p),
+        Outcome::Given(c, p) => Fielded::No(c, p),
+    }
+}
+
+// The fixed fields of a rule of a sound deck: its signature was read, Enabled and Unknown2 to Unknown5 stand from a place on.
+fn kept_at(s: &[u8], at: usize, signature: u64) -> Fielded
+    ensures { λ v. ⌜ Kept (now (s .entry)) at signature v ⌝ }
+{
+    let a = wire::u32_at(s, at);
+    let Read::Got(on, p) = a else {
+        return no_fields(format::end_says(a));
+    };
+    let b = wire::u32_at(s, p);
+    let Read::Got(unknown2, q) = b else {
+        return no_fields(format::end_says(b));
+    };
+    let c = wire::u32_at(s, q);
+    let Read::Got(unknown3, r) = c else {
+        return no_fields(format::end_says(c));
+    };
+    let d = wire::u32_at(s, r);
+    let Read::Got(unknown4, t) = d else {
+        return no_fields(format::end_says(d));
+    };
+    let e = wire::u32_at(s, t);
+    let Read::Got(unknown5, _) = e else {
+        return no_fields(format::end_says(e));
+    };
+    Fielded::Is(Fields {
+        signature: (signature % 0x1_0000_0000) as u32,
+        on: on == 1,
+        unknown2: (unknown2 % 0x1_0000_0000) as u32,
+        unknown3: (unknown3 % 0x1_0000_0000) as u32,
+        unknown4: (unknown4 % 0x1_0000_0000) as u32,
+        unknown5: (unknown5 % 0x1_0000_0000) as u32,
+    })
+}
+
+// The fixed fields of rule k of a sound deck.
+fn fields_at(s: &[u8], k: u64) -> Fielded
+    ensures { λ v. ⌜ Tells (now (s .entry)) k fixedAt v ⌝ }
+{
+    let r = locate::start_of(s, k);
+    let Read::Got(_, at) = r else {
+        return no_fields(format::end_says(r));
+    };
+    let g = wire::u32_at(s, at);
+    let Read::Got(signature, _) = g else {
+        return no_fields(format::end_says(g));
+    };
+    let t = locate::name_end(s, at);
+    let Read::Got(_, e) = t else {
+        return no_fields(format::end_says(t));
+    };
+    kept_at(s, e, signature)
+}
+
+// The fixed fields of rule k.
+pub fn fixed(edition: u64, s: &[u8], k: u64) -> Fielded
+    ensures { λ v. ⌜ (v ≡ fixedFields edition k (now (s .entry))) × (fieldsSay v ≡ fieldsAnswer edition k (now (s .entry))) ⌝ }
+{
+    let c = deck::pass(edition, s);
+    let Scan::Is(n, _) = c else {
+        return no_fields(deck::scan_says(c));
+    };
+    if n <= k {
+        return Fielded::No(Fault::Absent, 0);
+    }
+    fields_at(s, k)
+}

@@ -1,0 +1,87 @@
+// What is asked of a rule of a deck, in a lent table: its fixed fields; its name, or a word, as a part of the deck.
+use fixed::Fielded;
+use format::Outcome;
+use rule::Fields;
+use view::View;
+ghost use mathlib.Core.Path.{_≡_};
+ghost use Rattle.format.specs.declared.Outcome.the-variants.{Done};
+ghost use Rattle.format.specs.ReadWrite.{bit};
+ghost use Rattle.text.specs.Text.{formOf};
+ghost use Rattle.fixed.specs.Fixed.{fieldsValues, fieldsAnswer};
+ghost use Rattle.view.specs.View.{nameView, partSays};
+ghost use Rattle.word_view.specs.Word.{wordView};
+ghost use Rattle.view.specs.Laws.View.{Inside};
+ghost use Rattle.lent.specs.Lent.{fieldsWidth, partWidth, Lends};
+
+fn bit_of(yes: bool) -> u32
+    ensures { λ r. ⌜ r ≡ bit yes ⌝ }
+{
+    if yes {
+        return 1;
+    }
+    0
+}
+
+fn put_fields(t: &mut [u32], f: Fields) -> Outcome
+    ensures { λ r. ⌜ Lends fieldsWidth (now (t .entry)) (Done 0, fieldsValues f) r (now (t .exit)) ⌝ }
+{
+    let on = bit_of(f.on);
+    lent::put_row(
+        t,
+        &[
+            f.signature,
+            on,
+            f.unknown2,
+            f.unknown3,
+            f.unknown4,
+            f.unknown5,
+        ],
+    )
+}
+
+// The fixed fields of rule k.
+pub fn fields(edition: u64, s: &[u8], k: u64, t: &mut [u32]) -> Outcome
+    ensures { λ r. ⌜ Lends fieldsWidth (now (t .entry)) (fieldsAnswer edition k (now (s .entry))) r (now (t .exit)) ⌝ }
+{
+    let v = fixed::fixed(edition, s, k);
+    match v {
+        Fielded::Is(f) => put_fields(t, f),
+        Fielded::No(c, p) => Outcome::No(c, p),
+    }
+}
+
+fn form_of(units: usize) -> u32
+    ensures { λ r. ⌜ r ≡ formOf units ⌝ }
+{
+    if units == 255 {
+        return 1;
+    }
+    0
+}
+
+// A view by its numbers.
+fn put_part(t: &mut [u32], v: View) -> Outcome
+    requires { ⌜ Inside v 60000 ⌝ }
+    ensures { λ r. ⌜ Lends partWidth (now (t .entry)) (partSays v) r (now (t .exit)) ⌝ }
+{
+    match v {
+        View::At(a, b) => lent::put_row(t, &[a as u32, b as u32, form_of(b / 2)]),
+        View::No(c, p) => Outcome::No(c, p),
+    }
+}
+
+// The name of rule k.
+pub fn name_part(edition: u64, s: &[u8], k: u64, t: &mut [u32]) -> Outcome
+    ensures { λ r. ⌜ Lends partWidth (now (t .entry)) (partSays (nameView edition k (now (s .entry)))) r (now (t .exit)) ⌝ }
+{
+    let v = view::find_name(edition, s, k);
+    put_part(t, v)
+}
+
+// Word w of element e of rule k.
+pub fn word_part(edition: u64, s: &[u8], k: u64, e: u64, w: u64, t: &mut [u32]) -> Outcome
+    ensures { λ r. ⌜ Lends partWidth (now (t .entry)) (partSays (wordView edition k e w (now (s .entry)))) r (now (t .exit)) ⌝ }
+{
+    let v = word_view::find_word(edition, s, k, e, w);
+    put_part(t, v)
+}

@@ -1,0 +1,158 @@
+// A word of an element as a part of the deck's bytes.
+use deck::Scan;
+use format::Fault;
+use format::Outcome;
+use format::Read;
+use kind::Edition;
+use kind::Kind;
+use kind::Product;
+use kind::Row;
+use view::View;
+ghost use mathlib.Core.Path.{_≡_};
+ghost use lib.ListN.{length};
+ghost use denote.Ref.{ptr};
+ghost use Rattle.format.specs.Laws.Skip.{Skipped};
+ghost use Rattle.format.specs.Laws.Back.{Where};
+ghost use Rattle.text.specs.Text.{word};
+ghost use Rattle.element.specs.Data.{wordData, dataOf};
+ghost use Rattle.rule.specs.Rule.{rule};
+ghost use Rattle.walk.specs.Laws.Elements.{Carries};
+ghost use Rattle.view.specs.Laws.Asked.{Finds};
+ghost use Rattle.word_view.specs.Laws.Word.{Words};
+ghost use Rattle.word_view.specs.Word.{dataWord, ruleWord, wordView};
+ghost use Rattle.view.specs.Laws.View.{Inside};
+ghost use Rattle.view.specs.View.{PartOf, viewSays};
+
+// Where word w of a row of words starts.
+fn word_start(s: &[u8], at: usize, w: u64) -> Read
+    ensures { λ r. ⌜ Skipped (λ i. word) (now (s .entry)) at w w r ⌝ }
+{
+    let mut i = 0;
+    let mut p = at;
+    while i < w {
+        let r = text::word_at(s, p);
+        let Read::Got(_, q) = r else {
+            return r;
+        };
+        p = q;
+        i += 1;
+    }
+    Read::Got(0, p)
+}
+
+// Word w of a row of words.
+fn word_in(s: &[u8], at: usize, w: u64) -> View
+    ensures { λ v. ⌜ Words (now (s .entry)) at w v × Inside v (length (now (s .entry))) ⌝ }
+{
+    let r = word_start(s, at, w);
+    let Read::Got(_, q) = r else {
+        return view::no_view(format::end_says(r));
+    };
+    let t = text::word_at(s, q);
+    view::units_of(s, t)
+}
+
+// Word w of the data of a word list.
+fn list_word(s: &[u8], at: usize, w: u64) -> View
+    ensures { λ v. ⌜ Where wordData (now (s .entry)) at (dataWord w at) v × Inside v (length (now (s .entry))) ⌝ }
+{
+    let c = wire::u32_at(s, at);
+    let Read::Got(n, p) = c else {
+        return view::no_view(format::end_says(c));
+    };
+    if n <= w {
+        return View::No(Fault::Absent, 2);
+    }
+    word_in(s, p, w)
+}
+
+// Word w of the data of a kind.
+fn data_word(s: &[u8], at: usize, kind: Kind, w: u64) -> View
+    ensures { λ v. ⌜ Where (dataOf kind) (now (s .entry)) at (dataWord w at) v × Inside v (length (now (s .entry))) ⌝ }
+{
+    match kind {
+        Kind::WordList => list_word(s, at, w),
+        Kind::Marker => View::No(Fault::Absent, 2),
+        Kind::Simple(_) => View::No(Fault::Absent, 2),
+        Kind::Size(_) => View::No(Fault::Absent, 2),
+        Kind::Dates(_) => View::No(Fault::Absent, 2),
+    }
+}
+
+// Word w of the element at place e of its rule.
+fn element_word(s: &[u8], at: usize, product: Product, e: u64, w: u64) -> View
+    ensures { λ v. ⌜ Carries product (now (s .entry)) at e (dataWord w) v × Inside v (length (now (s .entry))) ⌝ }
+{
+    let r = walk::identifier_at(s, at, e);
+    let Read::Got(id, q) = r else {
+        return view::no_view(format::end_says(r));
+    };
+    let row = row::row_for(product, id);
+    let Row::Is(kind) = row else {
+        return view::no_view(kind::kind_says(row));
+    };
+    data_word(s, q, kind, w)
+}
+
+// Word w of element e of rule k, which starts at a place.
+fn rule_word(s: &[u8], at: usize, product: Product, k: u64, e: u64, w: u64) -> View
+    ensures { λ v. ⌜ Where (rule product k) (now (s .entry)) at (ruleWord k e w product at) v × Inside v (length (now (s .entry))) ⌝ }
+{
+    let c = walk::elements_of(s, at, k);
+    let Read::Got(n, p) = c else {
+        return view::no_view(format::end_says(c));
+    };
+    if n <= e {
+        return View::No(Fault::Absent, 1);
+    }
+    let r = walk::element_start(s, p, product, e);
+    let Read::Got(_, q) = r else {
+        return view::no_view(format::end_says(r));
+    };
+    element_word(s, q, product, e, w)
+}
+
+// Word w of element e of rule k of a sound deck.
+fn word_of(s: &[u8], product: Product, k: u64, e: u64, w: u64) -> View
+    ensures { λ v. ⌜ Finds product (now (s .entry)) k (ruleWord k e w product) v × Inside v (length (now (s .entry))) ⌝ }
+{
+    let r = locate::start_of(s, k);
+    let Read::Got(_, at) = r else {
+        return view::no_view(format::end_says(r));
+    };
+    rule_word(s, at, product, k, e, w)
+}
+
+// Word w of element e of rule k: where its units stand and how many bytes they are.
+pub fn find_word(edition: u64, s: &[u8], k: u64, e: u64, w: u64) -> View
+    ensures { λ v. ⌜ (v ≡ wordView edition k e w (now (s .entry))) × Inside v (length (now (s .entry))) ⌝ }
+{
+    let d = kind::edition_of(edition);
+    let Edition::Of(product) = d else {
+        return View::No(Fault::Edition, 0);
+    };
+    let c = deck::pass(edition, s);
+    let Scan::Is(n, _) = c else {
+        return view::no_view(deck::scan_says(c));
+    };
+    if n <= k {
+        return View::No(Fault::Absent, 0);
+    }
+    word_of(s, product, k, e, w)
+}
+
+// That word as a part of the deck's bytes.
+pub fn word(edition: u64, s: &[u8], k: u64, e: u64, w: u64) -> &[u8]
+    ensures { λ r. ⌜ PartOf (wordView edition k e w (now (s .entry))) (now (s .entry)) (ptr (s .entry)) (now r) (ptr r) ⌝ }
+{
+    let v = find_word(edition, s, k, e, w);
+    view::part(s, v)
+}
+
+// The number and place of that view.
+pub fn word_place(edition: u64, s: &[u8], k: u64, e: u64, w: u64) -> Outcome
+    ensures { λ r. ⌜ r ≡ viewSays (wordView edition k e w (now (s .entry))) ⌝ }
+{
+    let v = find_word(edition, s, k, e, w);
+    view::place_of(v)
+}
