@@ -23,8 +23,8 @@ narrow n = ltb n (2 ^ 32)
 abbrev pub isFlag : ℕ → Bool
 isFlag n = leb n 1
 
-abbrev pub spanOf : ℕ → ℕ → ℕ → ℕ → Span
-spanOf starts ends after before = record { starts = eqb starts 1; ends = eqb ends 1; after = ofBits binary64 after; before = ofBits binary64 before }
+abbrev pub spanFrom : ℕ → ℕ → ℕ → ℕ → Span
+spanFrom starts ends after before = record { starts = eqb starts 1; ends = eqb ends 1; after = ofBits binary64 after; before = ofBits binary64 before }
 
 -- of each case, by the numbers that it looks at
 unfoldable pub bySimple : ℕ → Value
@@ -34,7 +34,7 @@ unfoldable pub bySize : ℕ → ℕ → Value
 bySize minimum maximum = pick (narrow minimum && narrow maximum) (Size minimum maximum) noValue
 
 unfoldable pub byDates : ℕ → ℕ → ℕ → ℕ → Value
-byDates starts ends after before = pick (isFlag starts && isFlag ends) (Dates (spanOf starts ends after before)) noValue
+byDates starts ends after before = pick (isFlag starts && isFlag ends) (Dates (spanFrom starts ends after before)) noValue
 
 unfoldable pub byCase : ℕ → ℕ → ℕ → ℕ → ℕ → Value
 byCase n x y a b = pick (eqb n 0) Marker (pick (eqb n 1) (bySimple x) (pick (eqb n 2) (bySize x y) (pick (eqb n 3) (byDates x y a b) noValue)))
