@@ -1,14 +1,14 @@
 -- How many elements a deck can have: behind its 7 bytes of header each takes at least 10, so they are at most 5,999.
 use Prim.Native.Nat.{ℕ, _+_, _*_, _≤_, _<_}
 use native.Mathlib.Omega.{arith}
-use mathlib.Core.Path.{_≡_, refl, ap, _∙_}
+use mathlib.Core.Path.{_≡_, ap, _∙_}
 use mathlib.Core.List.{List, [], _∷_, _++_}
 use lib.ListN.{length, length-append}
 use borrow.Author.Tests.{ne-eqb}
 use Rattle.format.specs.Format.{got, Bytes, pick}
 use Rattle.format.specs.ReadWrite.{pairWrite, eachWrite, spelt, bit}
 use Rattle.format.specs.Laws.ReadWrite.{length-spelt}
-use Rattle.format.specs.Combinators.{pair, seq, _then_, judged, via, number, fixed, flag, count, each, counted, listed, bytes, measured, sized}
+use Rattle.format.specs.Combinators.{pair, seq, _then_, judged, via, number, fixed, flag, count, each, counted, listed, measured, sized}
 use Rattle.format.specs.Row.{total}
 use Rattle.text.specs.Text.{string}
 use Rattle.date.specs.Date.{date}
@@ -23,8 +23,8 @@ use Rattle.element.specs.Data.{Data, oneZero, markerData, simpleData, wordData,
 use Rattle.element.specs.Element.{Element, element, identifier, dataBy}
 use Rattle.rule.specs.Rule.{Rule, rule, fields, fromUnknown2, fromUnknown4, body, head, placed, elementsIn}
 use Rattle.rule.specs.Places.{ruleBytes, elementsBytes}
-use Rattle.deck.specs.Deck.{mark, header, deck, readAs}
-use Rattle.deck.specs.Laws.Deck.{read-writes-back}
+use Rattle.deck.specs.Deck.{header, deck, readAs}
+use Rattle.deck.specs.Laws.Deck.{read-writes-back, header-length}
 
 data-least : (k : Kind) (d : Data) → 4 ≤ length (dataOf k .write d)
 unfolding markerData simpleData wordData sizeData dateData limit flag date oneZero fixed listed counted count _then_ seq pair pairWrite via judged number spelt
@@ -86,16 +86,12 @@ unfolding eachWrite total
 rules-least p i [] = omega arith
 rules-least p i (r ∷ rs) = omega (arith, length-append (rule p i .write r) (eachWrite (rule p) (i + 1) rs), rule-least p i r, rules-least p (i + 1) rs)
 
-header-long : (n : ℕ) → length (header .write n) ≡ 7
-unfolding header bytes mark fixed count _then_ seq pair pairWrite via judged number spelt
-header-long n = refl
-
 -- each element takes at least 10 bytes of its deck
 pub elements-most : (p : Product) (s : List ℕ) (rs : List Rule) (n : ℕ) → Bytes s → readAs p s ≡ got rs n → 7 + 10 * total elementsIn rs ≤ length s
 unfolding deck counted each via pair pairWrite
 elements-most p s rs n b e =
     let w = read-writes-back p s rs n b e in
-    omega (arith, ap length (w .is), length-append (header .write (length rs)) (eachWrite (rule p) 0 rs), header-long (length rs), rules-least p 0 rs)
+    omega (arith, ap length (w .is), length-append (header .write (length rs)) (eachWrite (rule p) 0 rs), header-length (length rs), rules-least p 0 rs)
 
 pub elements-bound : (p : Product) (s : List ℕ) (rs : List Rule) (n : ℕ) → Bytes s → readAs p s ≡ got rs n → total elementsIn rs ≤ 5999
 elements-bound p s rs n b e = omega (arith, elements-most p s rs n b e, read-writes-back p s rs n b e .short)
