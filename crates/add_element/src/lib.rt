@@ -23,25 +23,31 @@ fn put_element(buf: &mut [u8], at: usize, identifier: u32, s: &[u8])
     parts::put_behind(buf, at + 2, 4, identifier as u64, s);
 }
 
-// To the last rule, whose name ends at e and which has count elements.
-fn grow(buf: &mut [u8], n: usize, e: usize, count: u64, identifier: u32, s: &[u8]) -> Outcome
+// To the last of m rules, whose name ends at e and which has count elements.
+fn grow(
+    buf: &mut [u8],
+    n: usize,
+    m: u64,
+    e: usize,
+    count: u64,
+    identifier: u32,
+    s: &[u8],
+) -> Outcome
     requires { ⌜ (e ≤ length (now buf)) × (n ≤ 60000) × (count < 64) ⌝ }
-    ensures { λ r. ⌜ Grows n e count identifier (now (s .entry)) (now (buf .entry)) r (now (buf .exit)) ⌝ }
+    ensures { λ r. ⌜ Grows n m e count identifier (now (s .entry)) (now (buf .entry)) r (now (buf .exit)) ⌝ }
 {
     let new = n + 6 + s.len();
-    if 60000 < new {
-        return Outcome::No(Fault::Large, 0);
-    }
-    if buf.len() < new {
-        return Outcome::No(Fault::Room, 0);
-    }
+    let o = room::room_for(m, new, buf.len());
+    let Outcome::Done(_) = o else {
+        return o;
+    };
     if new < e + 24 {
         return Outcome::No(Fault::Last, 0);
     }
     put_element(buf, n, identifier, s);
     buffer::put_number(buf, e + 20, 4, (new - (e + 24)) as u64);
     buffer::put_number(buf, e + 24, 2, count + 1);
-    Outcome::Done(new)
+    o
 }
 
 // To the last of m rules, which starts at a.
@@ -71,11 +77,11 @@ fn element_in(
     if 64 <= count {
         return Outcome::No(Fault::Full, 0);
     }
-    let g = plan::given_element(product, identifier, s);
+    let g = given::given_element(product, identifier, s);
     let Read::Got(_, _) = g else {
         return format::in_given(format::end_says(g));
     };
-    grow(buf, n, e, count, identifier, s)
+    grow(buf, n, m, e, count, identifier, s)
 }
 
 // An element is added to the last rule.

@@ -14,7 +14,7 @@ ghost use Rattle.buffer.specs.Laid.{putIn};
 ghost use Rattle.locate.specs.Laws.Located.{lastOf};
 ghost use Rattle.rule.specs.Laws.Parts.{headBytes};
 ghost use Rattle.parts.specs.Laws.Text.{textBytes};
-ghost use Rattle.plan.specs.Given.{isText};
+ghost use Rattle.given.specs.Given.{isText};
 ghost use Rattle.plan.specs.Edit.{addRule, Edits};
 ghost use Rattle.plan.specs.Laws.Found.{MakesAs};
 ghost use Rattle.add_rule.specs.Laws.Rule.{keptBytes, frontBytes, backBytes, Extends};
@@ -47,10 +47,10 @@ fn put_back(buf: &mut [u8], at: usize, i: u64, identifier: u32, s: &[u8])
     requires { ⌜ at + 10 + length (headBytes i) + length (now s) ≤ length (now buf) ⌝ }
     ensures { λ _. ⌜ now (buf .exit) ≡ putIn (now (buf .entry)) at (backBytes i identifier (now (s .entry))) ⌝ }
 {
-    let head = parts::head_size(i);
+    let head = head::head_size(i);
     buffer::put_number(buf, at, 4, (6 + head + s.len()) as u64);
     buffer::put_number(buf, at + 4, 2, 1);
-    parts::put_head(buf, at + 6, i);
+    head::put_head(buf, at + 6, i);
     parts::put_behind(buf, at + 6 + head, 4, identifier as u64, s);
 }
 
@@ -67,21 +67,16 @@ fn extend(
     requires { ⌜ (n ≤ 60000) × (m ≤ 256) × (isText (now name) ≡ true) ⌝ }
     ensures { λ r. ⌜ Extends n m (now (name .entry)) fields identifier (now (s .entry)) (now (buf .entry)) r (now (buf .exit)) ⌝ }
 {
-    if m == 256 {
-        return Outcome::No(Fault::Rules, 0);
-    }
     let at = n + 24 + parts::text_size(name);
-    let end = at + 10 + parts::head_size(m) + s.len();
-    if 60000 < end {
-        return Outcome::No(Fault::Large, 0);
-    }
-    if buf.len() < end {
-        return Outcome::No(Fault::Room, 0);
-    }
+    let end = at + 10 + head::head_size(m) + s.len();
+    let o = room::room_for(m + 1, end, buf.len());
+    let Outcome::Done(_) = o else {
+        return o;
+    };
     put_front(buf, n, name, fields);
     put_back(buf, at, m, identifier, s);
     buffer::put_number(buf, 5, 2, m + 1);
-    Outcome::Done(end)
+    o
 }
 
 // To a deck of m rules.
@@ -98,11 +93,11 @@ fn rule_in(
     requires { ⌜ (n ≤ 60000) × (m ≤ 256) ⌝ }
     ensures { λ r. ⌜ ((a : ℕ) → MakesAs product lastOf n m a (addRule (now (name .entry)) fields identifier (now (s .entry))) (now (buf .entry)) r (now (buf .exit))) ⌝ }
 {
-    let text = plan::is_text(name);
+    let text = given::is_text(name);
     if !text {
         return Outcome::No(Fault::Text, 0);
     }
-    let x = plan::given_element(product, identifier, s);
+    let x = given::given_element(product, identifier, s);
     let Read::Got(_, _) = x else {
         return format::in_given(format::end_says(x));
     };

@@ -29,7 +29,8 @@ use Rattle.put.specs.Plan.{write, deny, putting, putSays, Putting, putLeaves}
 use Rattle.rule.specs.Rule.{Rule}
 use Rattle.deck.specs.Deck.{readAs, readDeck, answered, scanned, scanSays}
 use Rattle.tables.specs.Tables.{tabled, readSays, rulesLeft, rulesAfter, elementsLeft, elementsAfter}
-use Rattle.view.specs.View.{viewSays, nameView}
+use Rattle.view.specs.View.{viewSays}
+use Rattle.name_view.specs.Name.{nameView}
 use Rattle.word_view.specs.Word.{wordView}
 use Rattle.fixed.specs.Fixed.{fieldsAnswer}
 use Rattle.plan.specs.Edit.{Edit, Plan, become, refuse, refuseGiven, planned, says, leaves, Edits}

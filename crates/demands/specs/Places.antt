@@ -10,7 +10,7 @@ use Rattle.kind.specs.declared.Product.{Product}
 use Rattle.rule.specs.Rule.{Rule, placed}
 use Rattle.rule.specs.Places.{elementsAt}
 use Rattle.deck.specs.Written.{startOf}
-use Rattle.plan.specs.Given.{units}
+use Rattle.given.specs.Given.{units}
 
 -- the bytes of s from a place to another are bs
 pub record Between (s : List ℕ) (from to : ℕ) (bs : List ℕ) : Type 0 where

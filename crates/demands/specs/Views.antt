@@ -16,8 +16,9 @@ use Rattle.rule.specs.Places.{dataAt}
 use Rattle.rule.specs.Laws.Places.{rule-parts, placed-parts}
 use Rattle.deck.specs.Deck.{readAs}
 use Rattle.deck.specs.Written.{startOf}
-use Rattle.view.specs.Asked.{asked}
-use Rattle.view.specs.View.{shown, nameView}
+use Rattle.asked.specs.Asked.{asked}
+use Rattle.view.specs.View.{shown}
+use Rattle.name_view.specs.Name.{nameView}
 use Rattle.word_view.specs.Word.{wordView}
 use Rattle.demands.specs.Places.{UnitsOf, elementStart}
 use Rattle.demands.specs.Laws.Places.{stands-in, string-units, word-units, words-row, rule-stands, element-stands}

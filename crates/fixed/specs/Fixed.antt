@@ -5,7 +5,7 @@ use Rattle.format.specs.declared.Outcome.the-variants as Outcome
 use Rattle.format.specs.Fault.{Said}
 use Rattle.format.specs.ReadWrite.{bit}
 use Rattle.rule.specs.Rule.{Rule}
-use Rattle.view.specs.Asked.{asked}
+use Rattle.asked.specs.Asked.{asked}
 use Rattle.rule.specs.declared.Fields.{Fields}
 use Rattle.fixed.specs.declared.Fielded.{Fielded}
 use Rattle.fixed.specs.declared.Fielded.the-variants.{Is, No}

@@ -5,7 +5,7 @@ use format::Outcome;
 use format::Read;
 use rule::Fields;
 ghost use mathlib.Core.Path.{_≡_};
-ghost use Rattle.view.specs.Laws.Asked.{Tells};
+ghost use Rattle.asked.specs.Laws.Asked.{Tells};
 ghost use Rattle.fixed.specs.Laws.Fixed.{Kept, noFields};
 ghost use Rattle.fixed.specs.Fixed.{fixedAt, fixedFields, fieldsSay, fieldsAnswer};
 

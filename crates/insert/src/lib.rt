@@ -33,11 +33,11 @@ fn put_rule(buf: &mut [u8], at: usize, front: &[u8], count: &[u8], els: &[u8], i
 {
     let size = at + front.len();
     let head = size + 6;
-    let long = parts::head_size(i);
+    let long = head::head_size(i);
     buffer::put_bytes(buf, at, front);
     buffer::put_number(buf, size, 4, (2 + long + els.len()) as u64);
     buffer::put_bytes(buf, size + 4, count);
-    parts::put_head(buf, head, i);
+    head::put_head(buf, head, i);
     buffer::put_bytes(buf, head + long, els);
 }
 
@@ -57,10 +57,10 @@ fn open_first(buf: &mut [u8], n: usize, m: u64, b: usize, len: usize)
         return;
     }
     let head = e + 26;
-    shift::open(buf, n, head, head + 18, len + 2);
-    shift::move_up(buf, 7, head + len, len);
+    gap::open(buf, n, head, head + 18, len + 2);
+    gap::move_up(buf, 7, head + len, len);
     buffer::put_number(buf, e + 20 + len, 4, (b - e - 40) as u64);
-    parts::put_head(buf, head + len, 1);
+    head::put_head(buf, head + len, 1);
 }
 
 // A gap of len bytes opens at place k of m, which starts at a, for a rule; what stands behind it becomes what it is behind a rule.
@@ -69,7 +69,7 @@ fn open_place(buf: &mut [u8], n: usize, k: u64, m: u64, a: usize, b: usize, len:
     ensures { λ _. ⌜ Opens n k m a b len (now (buf .entry)) (now (buf .exit)) ⌝ }
 {
     if lost_at(k, m) == 0 {
-        shift::open(buf, n, a, a, len);
+        gap::open(buf, n, a, a, len);
         return;
     }
     open_first(buf, n, m, b, len);
@@ -111,19 +111,14 @@ fn copy_rule(
     requires { ⌜ Sizes n k m a b (now buf) (now front) (now count) (now els) ⌝ }
     ensures { λ r. ⌜ Inserts n k m a b (now (front .entry)) (now (count .entry)) (now (els .entry)) (now (buf .entry)) r (now (buf .exit)) ⌝ }
 {
-    let len = front.len() + 6 + parts::head_size(k) + els.len();
+    let len = front.len() + 6 + head::head_size(k) + els.len();
     let new = n + (len - lost_at(k, m));
-    if 256 <= m {
-        return Outcome::No(Fault::Rules, 0);
-    }
-    if 60000 < new {
-        return Outcome::No(Fault::Large, 0);
-    }
-    if buf.len() < new {
-        return Outcome::No(Fault::Room, 0);
-    }
+    let o = room::room_for(m + 1, new, buf.len());
+    let Outcome::Done(_) = o else {
+        return o;
+    };
     put_copy(buf, n, k, m, a, b, len, front, count, els);
-    Outcome::Done(new)
+    o
 }
 
 // A copy of rule j of q of the second deck, which stands from c to e there.
@@ -154,7 +149,7 @@ fn insert_copy(
         return format::in_given(format::end_says(t));
     };
     let size = name + 20;
-    let first = size + 6 + parts::head_size(j);
+    let first = size + 6 + head::head_size(j);
     let front = &second[c..size];
     let count = &second[size + 4..size + 6];
     let els = &second[first..e];

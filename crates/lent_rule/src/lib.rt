@@ -8,7 +8,8 @@ ghost use Rattle.format.specs.declared.Outcome.the-variants.{Done};
 ghost use Rattle.format.specs.ReadWrite.{bit};
 ghost use Rattle.text.specs.Text.{formOf};
 ghost use Rattle.fixed.specs.Fixed.{fieldsValues, fieldsAnswer};
-ghost use Rattle.view.specs.View.{nameView, partSays};
+ghost use Rattle.view.specs.View.{partSays};
+ghost use Rattle.name_view.specs.Name.{nameView};
 ghost use Rattle.word_view.specs.Word.{wordView};
 ghost use Rattle.view.specs.Laws.View.{Inside};
 ghost use Rattle.lent.specs.Lent.{fieldsWidth, partWidth, Lends};
@@ -74,7 +75,7 @@ fn put_part(t: &mut [u32], v: View) -> Outcome
 pub fn name_part(edition: u64, s: &[u8], k: u64, t: &mut [u32]) -> Outcome
     ensures { λ r. ⌜ Lends partWidth (now (t .entry)) (partSays (nameView edition k (now (s .entry)))) r (now (t .exit)) ⌝ }
 {
-    let v = view::find_name(edition, s, k);
+    let v = name_view::find_name(edition, s, k);
     put_part(t, v)
 }
 

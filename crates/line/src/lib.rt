@@ -1,25 +1,11 @@
 // The lines that the lister prints, put at the start of a buffer: document 01, "One deck whole".
 ghost use mathlib.Core.Path.{_≡_};
 ghost use Prim.Native.Nat.{_+_, _≤_};
-ghost use lib.ListN.{length, drop};
-ghost use Rattle.line.specs.Line.{decimal, hexDigit, spaced, hexDigits, state, deckLine, ruleLine, elementLine, endLine, refusedLine, Lined};
+ghost use lib.ListN.{length};
+ghost use Rattle.digits.specs.Digits.{decimal, hexDigits};
+ghost use Rattle.line.specs.Line.{spaced, state, deckLine, ruleLine, elementLine, endLine, refusedLine, Lined};
+ghost use Rattle.line.specs.Laws.Line.{numbersLine};
 ghost use Rattle.line.specs.Laws.Adds.{Adds};
-
-// The decimal digits of n at the end of 20 bytes; answers where they start.
-fn spell(s: &mut [u8], n: u64) -> usize
-    requires { ⌜ length (now s) ≡ 20 ⌝ }
-    ensures { λ r. ⌜ (drop r (now (s .exit)) ≡ decimal n) × (r ≤ 19) ⌝ }
-{
-    s[19] = (48 + n % 10) as u8;
-    let mut i = 19;
-    let mut rest = n / 10;
-    while 0 < rest {
-        i -= 1;
-        s[i] = (48 + rest % 10) as u8;
-        rest = rest / 10;
-    }
-    i
-}
 
 // More bytes of a line that has at; answers how many it has then.
 fn add(line: &mut [u8], at: usize, more: &[u8]) -> usize
@@ -35,39 +21,18 @@ fn add_number(line: &mut [u8], at: usize, n: u64) -> usize
     ensures { λ r. ⌜ Adds (now (line .entry)) at (spaced (decimal n)) r (now (line .exit)) × (r ≤ at + 21) ⌝ }
 {
     let mut s = [0u8; 20];
-    let i = spell(&mut s, n);
+    let i = digits::spell(&mut s, n);
     let b = add(line, at, b" ");
     add(line, b, &s[i..])
-}
-
-// The last hexadecimal digit of n, in upper case.
-fn digit(n: u64) -> u8
-    ensures { λ r. ⌜ r ≡ hexDigit n ⌝ }
-{
-    let d = (n % 16) as u8;
-    if d < 10 {
-        return 48 + d;
-    }
-    55 + d
 }
 
 fn add_identifier(line: &mut [u8], at: usize, n: u32) -> usize
     requires { ⌜ at + 9 ≤ length (now line) ⌝ }
     ensures { λ r. ⌜ Adds (now (line .entry)) at (spaced (hexDigits n)) r (now (line .exit)) × (r ≤ at + 9) ⌝ }
 {
-    let n = n as u64;
-    let text = [
-        b' ',
-        digit(n / 0x1000_0000),
-        digit(n / 0x100_0000),
-        digit(n / 0x10_0000),
-        digit(n / 0x1_0000),
-        digit(n / 0x1000),
-        digit(n / 0x100),
-        digit(n / 0x10),
-        digit(n),
-    ];
-    add(line, at, &text)
+    let s = digits::hex_digits(n);
+    let b = add(line, at, b" ");
+    add(line, b, &s)
 }
 
 fn add_state(line: &mut [u8], at: usize, on: bool) -> usize
@@ -80,13 +45,21 @@ fn add_state(line: &mut [u8], at: usize, on: bool) -> usize
     add(line, at, b" OFF")
 }
 
+// A line of a word and two numbers.
+fn numbers(line: &mut [u8; 96], word: &[u8], m: u64, n: u64) -> usize
+    requires { ⌜ length (now word) ≤ 7 ⌝ }
+    ensures { λ r. ⌜ Lined (now (line .entry)) (numbersLine (now (word .entry)) m n) r (now (line .exit)) ⌝ }
+{
+    let a = add(line, 0, word);
+    let b = add_number(line, a, m);
+    let c = add_number(line, b, n);
+    add(line, c, b"\n")
+}
+
 pub fn deck(line: &mut [u8; 96], bytes: u64) -> usize
     ensures { λ r. ⌜ Lined (now (line .entry)) (deckLine bytes) r (now (line .exit)) ⌝ }
 {
-    let a = add(line, 0, b"DECK");
-    let b = add_number(line, a, 1);
-    let c = add_number(line, b, bytes);
-    add(line, c, b"\n")
+    numbers(line, b"DECK", 1, bytes)
 }
 
 pub fn rule(line: &mut [u8; 96], k: u64, on: bool, units: u64, elements: u64) -> usize
@@ -114,17 +87,11 @@ pub fn element(line: &mut [u8; 96], i: u64, identifier: u32, bytes: u64) -> usiz
 pub fn end(line: &mut [u8; 96], rules: u64, elements: u64) -> usize
     ensures { λ r. ⌜ Lined (now (line .entry)) (endLine rules elements) r (now (line .exit)) ⌝ }
 {
-    let a = add(line, 0, b"END");
-    let b = add_number(line, a, rules);
-    let c = add_number(line, b, elements);
-    add(line, c, b"\n")
+    numbers(line, b"END", rules, elements)
 }
 
 pub fn refused(line: &mut [u8; 96], number: u64, place: u64) -> usize
     ensures { λ r. ⌜ Lined (now (line .entry)) (refusedLine number place) r (now (line .exit)) ⌝ }
 {
-    let a = add(line, 0, b"REFUSED");
-    let b = add_number(line, a, number);
-    let c = add_number(line, b, place);
-    add(line, c, b"\n")
+    numbers(line, b"REFUSED", number, place)
 }

@@ -20,7 +20,8 @@ use Rattle.rule.specs.Rule.{Rule}
 use Rattle.deck.specs.Deck.{readAs}
 use Rattle.deck.specs.Written.{written}
 use Rattle.buffer.specs.Laid.{laid}
-use Rattle.plan.specs.Given.{isText, units, given}
+use Rattle.room.specs.Room.{roomFor}
+use Rattle.given.specs.Given.{isText, units, given}
 use mathlib.Core.Path.{_≡_}
 
 -- the seven edits, and what each is asked with: numbers of rules, texts as their bytes, the second deck, an element as identifier and data
@@ -112,16 +113,14 @@ edited p (addWord word) rs =
     atLast (drop (length rs - 1) rs) λ r. atList (drop (length (r .elements) - 1) (r .elements)) λ id ws. unlessFull (length ws)
     (ifText word (become (take (length rs - 1) rs ++ (holding (take (length (r .elements) - 1) (r .elements) ++ ((id, words (ws ++ (units word ∷ []))) ∷ [])) r ∷ []))))
 
--- "18, 19, 20": over 256 rules, over 60,000 bytes, longer than the buffer
-unfoldable pub room : ℕ → List Rule → Plan
-room cap rs =
-    pick (leb (length rs) 256)
-    (pick (leb (length (written rs)) 60000)
-    (pick (leb (length (written rs)) cap) (become rs) (refuse Fault.Room 0))
-    (refuse Fault.Large 0)) (refuse Fault.Rules 0)
+-- what 18, 19 and 20 leave of the edited list
+abbrev pub fitted : Outcome → List Rule → Plan
+fitted (Outcome.Done n) rs = become rs
+fitted (Outcome.No c q) rs = refuse c q
+fitted (Outcome.Given c q) rs = refuseGiven c q
 
 abbrev pub inRoom : ℕ → Plan → Plan
-inRoom cap (become rs) = room cap rs
+inRoom cap (become rs) = fitted (roomFor (length rs) (length (written rs)) cap) rs
 inRoom cap (refuse c q) = refuse c q
 inRoom cap (refuseGiven c q) = refuseGiven c q
 

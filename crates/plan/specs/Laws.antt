@@ -1,5 +1,3 @@
-pub mod Given
-pub mod Element
 pub mod Handed
 pub mod Found
 pub mod Makes

@@ -1,4 +1,3 @@
-pub mod Given
 pub mod Edit
 pub mod Handed
 pub mod Laws

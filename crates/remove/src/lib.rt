@@ -25,7 +25,7 @@ fn remove_other(buf: &mut [u8], n: usize, m: u64, a: usize, b: usize) -> Outcome
     requires { ⌜ Within n m a b (now buf) × (0 < m) ⌝ }
     ensures { λ r. ⌜ ((edition k : ℕ) → k < m → (k ≡ 0 → m ≡ 1) → Makes edition (λ rs. k) n m a b (remove k) (now (buf .entry)) r (now (buf .exit))) ⌝ }
 {
-    shift::open(buf, n, a, b, 0);
+    gap::open(buf, n, a, b, 0);
     one_less(buf, m);
     Outcome::Done(n - (b - a))
 }
@@ -36,9 +36,9 @@ fn lead(buf: &mut [u8], n: usize, b: usize, h: usize, size: u64)
     ensures { λ _. ⌜ now (buf .exit) ≡ led (now (buf .entry)) n b h size ⌝ }
 {
     let at = h - (b - 7);
-    shift::move_down(buf, 7, h, b - 7);
-    shift::open(buf, n, at, h + 2, 18);
-    parts::put_head(buf, at, 0);
+    gap::move_down(buf, 7, h, b - 7);
+    gap::open(buf, n, at, h + 2, 18);
+    head::put_head(buf, at, 0);
     buffer::put_number(buf, at - 6, 4, size + 16);
 }
 

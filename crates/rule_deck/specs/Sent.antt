@@ -1,5 +1,5 @@
 -- What goes back over the products' door: "one 64-bit number, code plus 256 times place".
-use Prim.Native.Nat.{ℕ, _+_, _*_, _/_, _%_}
+use Prim.Native.Nat.{ℕ, _/_, _%_}
 use mathlib.Core.Path.{_≡_}
 use mathlib.Core.Bool.{Bool}
 use mathlib.Core.List.{List}
@@ -13,10 +13,6 @@ use Rattle.lent.specs.Lent.{lentSays, lentLeaves, momentWidth}
 use Rattle.rule.specs.declared.Fields.{Fields}
 use Rattle.plan.specs.Edit.{Edit, planned, says, leaves}
 use Rattle.plan.specs.Handed.{Handed}
-
--- 256 times the major number plus the minor one: 1.0
-abbrev pub version : ℕ
-version = 256 * 1 + 0
 
 -- the promise of every call with a table for its result: the library's own, packed
 abbrev pub Hands : ℕ → List ℕ → Said → ℕ → List ℕ → Type 0

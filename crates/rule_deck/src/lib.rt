@@ -1,14 +1,14 @@
 // What the C products call: numbers and byte slices in, one number out, code plus 256 times place.
-use format::Outcome;
 use rule::Fields;
 ghost use mathlib.Core.Path.{_≡_};
-ghost use Prim.Native.Nat.{_^_, _<_};
 ghost use lib.ListN.{length};
-ghost use Rattle.format.specs.Fault.{placeOf, packed};
+ghost use Rattle.format.specs.Fault.{packed};
+ghost use Rattle.version.specs.Version.{version};
 ghost use Rattle.kind.specs.Kinds.{editionOf, kindOf};
 ghost use Rattle.deck.specs.Deck.{answered, readDeck};
 ghost use Rattle.tables.specs.Tables.{readSays, rulesAfter, elementsAfter};
-ghost use Rattle.view.specs.View.{viewSays, partSays, nameView};
+ghost use Rattle.view.specs.View.{viewSays, partSays};
+ghost use Rattle.name_view.specs.Name.{nameView};
 ghost use Rattle.word_view.specs.Word.{wordView};
 ghost use Rattle.fixed.specs.Fixed.{fieldsAnswer};
 ghost use Rattle.value.specs.Value.{valueAnswer};
@@ -17,25 +17,14 @@ ghost use Rattle.lent.specs.Lent.{kindWidth, fieldsWidth, partWidth, valueWidth
 ghost use Rattle.put_table.specs.Table.{valueFrom};
 ghost use Rattle.plan.specs.Edit.{switch, rename, remove, insert, addRule, addElement, addWord};
 ghost use Rattle.start.specs.Start.{startSays, startLeaves};
-ghost use Rattle.rule_deck.specs.Sent.{version, Hands, HandsMoment, Sends, fieldsOf};
-
-fn pack(o: Outcome) -> u64
-    requires { ⌜ placeOf o < 2 ^ 48 ⌝ }
-    ensures { λ r. ⌜ r ≡ packed o ⌝ }
-{
-    match o {
-        Outcome::Done(n) => 256 * (n as u64),
-        Outcome::No(c, p) => format::number_of(c) + 256 * (p as u64),
-        Outcome::Given(c, p) => format::number_of(c) + 32 + 256 * (p as u64),
-    }
-}
+ghost use Rattle.rule_deck.specs.Sent.{Hands, HandsMoment, Sends, fieldsOf};
 
 // The version of this library.
 #[no_mangle]
 pub extern "C" fn rule_deck_version() -> u64
     ensures { λ r. ⌜ r ≡ version ⌝ }
 {
-    0x100
+    version::version()
 }
 
 // The deck check: the number of rules as its place, or a refusal.
@@ -43,7 +32,7 @@ pub extern "C" fn rule_deck_version() -> u64
 pub extern "C" fn rule_deck_check(edition: u64, deck: &[u8]) -> u64
     ensures { λ r. ⌜ r ≡ packed (answered (readDeck edition (now (deck .entry)))) ⌝ }
 {
-    pack(deck::check(edition, deck))
+    packed::pack(deck::check(edition, deck))
 }
 
 // Reads a deck into two tables.
@@ -56,7 +45,7 @@ pub extern "C" fn rule_deck_read(
 ) -> u64
     ensures { λ r. ⌜ (r ≡ packed (readSays (editionOf edition) (length (now (rules .entry))) (length (now (elements .entry))) (now (deck .entry)))) × ((now (rules .exit) ≡ rulesAfter (editionOf edition) (now (deck .entry)) (now (rules .entry)) (now (elements .entry))) × (now (elements .exit) ≡ elementsAfter (editionOf edition) (now (deck .entry)) (now (rules .entry)) (now (elements .entry)))) ⌝ }
 {
-    pack(tables::read(edition, deck, rules, elements))
+    packed::pack(tables::read(edition, deck, rules, elements))
 }
 
 // Where the units of the name of rule k start.
@@ -64,8 +53,8 @@ pub extern "C" fn rule_deck_read(
 pub extern "C" fn rule_deck_name(edition: u64, deck: &[u8], k: u64) -> u64
     ensures { λ r. ⌜ r ≡ packed (viewSays (nameView edition k (now (deck .entry)))) ⌝ }
 {
-    let v = view::find_name(edition, deck, k);
-    pack(view::place_of(v))
+    let v = name_view::find_name(edition, deck, k);
+    packed::pack(view::place_of(v))
 }
 
 // Where the units of word w of element e of rule k start.
@@ -74,7 +63,7 @@ pub extern "C" fn rule_deck_word(edition: u64, deck: &[u8], k: u64, e: u64, w: u
     ensures { λ r. ⌜ r ≡ packed (viewSays (wordView edition k e w (now (deck .entry)))) ⌝ }
 {
     let v = word_view::find_word(edition, deck, k, e, w);
-    pack(view::place_of(v))
+    packed::pack(view::place_of(v))
 }
 
 // The row of an identifier among the kinds, and its role.
@@ -82,7 +71,7 @@ pub extern "C" fn rule_deck_word(edition: u64, deck: &[u8], k: u64, e: u64, w: u
 pub extern "C" fn rule_deck_kind(edition: u64, identifier: u32, kind: &mut [u32]) -> u64
     ensures { λ r. ⌜ Hands kindWidth (now (kind .entry)) (kindOf edition identifier) r (now (kind .exit)) ⌝ }
 {
-    pack(lent::kind(edition, identifier, kind))
+    packed::pack(lent::kind(edition, identifier, kind))
 }
 
 // The fixed fields of rule k.
@@ -90,7 +79,7 @@ pub extern "C" fn rule_deck_kind(edition: u64, identifier: u32, kind: &mut [u32]
 pub extern "C" fn rule_deck_fields(edition: u64, deck: &[u8], k: u64, fields: &mut [u32]) -> u64
     ensures { λ r. ⌜ Hands fieldsWidth (now (fields .entry)) (fieldsAnswer edition k (now (deck .entry))) r (now (fields .exit)) ⌝ }
 {
-    pack(lent_rule::fields(edition, deck, k, fields))
+    packed::pack(lent_rule::fields(edition, deck, k, fields))
 }
 
 // The name of rule k as a part of the deck, by its numbers.
@@ -98,7 +87,7 @@ pub extern "C" fn rule_deck_fields(edition: u64, deck: &[u8], k: u64, fields: &m
 pub extern "C" fn rule_deck_name_part(edition: u64, deck: &[u8], k: u64, part: &mut [u32]) -> u64
     ensures { λ r. ⌜ Hands partWidth (now (part .entry)) (partSays (nameView edition k (now (deck .entry)))) r (now (part .exit)) ⌝ }
 {
-    pack(lent_rule::name_part(edition, deck, k, part))
+    packed::pack(lent_rule::name_part(edition, deck, k, part))
 }
 
 // Word w of element e of rule k as a part of the deck, by its numbers.
@@ -113,7 +102,7 @@ pub extern "C" fn rule_deck_word_part(
 ) -> u64
     ensures { λ r. ⌜ Hands partWidth (now (part .entry)) (partSays (wordView edition k e w (now (deck .entry)))) r (now (part .exit)) ⌝ }
 {
-    pack(lent_rule::word_part(edition, deck, k, e, w, part))
+    packed::pack(lent_rule::word_part(edition, deck, k, e, w, part))
 }
 
 // What the date of these bits says.
@@ -121,7 +110,7 @@ pub extern "C" fn rule_deck_word_part(
 pub extern "C" fn rule_deck_moment(bits: u64, moment: &mut [u32]) -> u64
     ensures { λ r. ⌜ HandsMoment bits (now (moment .entry)) r (now (moment .exit)) ⌝ }
 {
-    pack(lent::moment(bits, moment))
+    packed::pack(lent::moment(bits, moment))
 }
 
 // The value of lone element data.
@@ -129,7 +118,7 @@ pub extern "C" fn rule_deck_moment(bits: u64, moment: &mut [u32]) -> u64
 pub extern "C" fn rule_deck_value(edition: u64, identifier: u32, s: &[u8], value: &mut [u64]) -> u64
     ensures { λ r. ⌜ Hands valueWidth (now (value .entry)) (valueAnswer edition identifier (now (s .entry))) r (now (value .exit)) ⌝ }
 {
-    pack(value_table::value(edition, identifier, s, value))
+    packed::pack(value_table::value(edition, identifier, s, value))
 }
 
 // A value as the data of an identifier, written at the start of a buffer.
@@ -142,7 +131,7 @@ pub extern "C" fn rule_deck_put_value(
 ) -> u64
     ensures { λ r. ⌜ (r ≡ packed (putSays (putting edition identifier (valueFrom (now (value .entry))) (length (now (buf .entry)))))) × (now (buf .exit) ≡ putLeaves (now (buf .entry)) (putting edition identifier (valueFrom (now (value .entry))) (length (now (buf .entry))))) ⌝ }
 {
-    pack(put_table::put_value(edition, identifier, value, buf))
+    packed::pack(put_table::put_value(edition, identifier, value, buf))
 }
 
 // Starts an empty deck.
@@ -150,7 +139,7 @@ pub extern "C" fn rule_deck_put_value(
 pub extern "C" fn rule_deck_start(buf: &mut [u8]) -> u64
     ensures { λ r. ⌜ (r ≡ packed (startSays (length (now (buf .entry))))) × (now (buf .exit) ≡ startLeaves (now (buf .entry))) ⌝ }
 {
-    pack(start::start(buf))
+    packed::pack(start::start(buf))
 }
 
 // Switches rule k on or off.
@@ -164,7 +153,7 @@ pub extern "C" fn rule_deck_switch(
 ) -> u64
     ensures { λ r. ⌜ Sends edition stated (switch k on) (now (buf .entry)) r (now (buf .exit)) ⌝ }
 {
-    pack(change::switch(edition, buf, stated as usize, k, on))
+    packed::pack(switch::switch(edition, buf, stated as usize, k, on))
 }
 
 // Renames rule k.
@@ -178,7 +167,7 @@ pub extern "C" fn rule_deck_rename(
 ) -> u64
     ensures { λ r. ⌜ Sends edition stated (rename k (now (name .entry))) (now (buf .entry)) r (now (buf .exit)) ⌝ }
 {
-    pack(change::rename(edition, buf, stated as usize, k, name))
+    packed::pack(rename::rename(edition, buf, stated as usize, k, name))
 }
 
 // Removes rule k.
@@ -186,7 +175,7 @@ pub extern "C" fn rule_deck_rename(
 pub extern "C" fn rule_deck_remove(edition: u64, buf: &mut [u8], stated: u64, k: u64) -> u64
     ensures { λ r. ⌜ Sends edition stated (remove k) (now (buf .entry)) r (now (buf .exit)) ⌝ }
 {
-    pack(remove::remove(edition, buf, stated as usize, k))
+    packed::pack(remove::remove(edition, buf, stated as usize, k))
 }
 
 // Inserts at place k a copy of rule j of a second deck.
@@ -201,7 +190,7 @@ pub extern "C" fn rule_deck_insert(
 ) -> u64
     ensures { λ r. ⌜ Sends edition stated (insert k (now (second .entry)) j) (now (buf .entry)) r (now (buf .exit)) ⌝ }
 {
-    pack(insert::insert(edition, buf, stated as usize, k, second, j))
+    packed::pack(insert::insert(edition, buf, stated as usize, k, second, j))
 }
 
 // Adds a rule at the end.
@@ -230,7 +219,7 @@ pub extern "C" fn rule_deck_add_rule(
         unknown4,
         unknown5,
     };
-    pack(add_rule::add_rule(edition, buf, stated as usize, name, fields, identifier, s))
+    packed::pack(add_rule::add_rule(edition, buf, stated as usize, name, fields, identifier, s))
 }
 
 // Adds an element to the last rule.
@@ -244,7 +233,7 @@ pub extern "C" fn rule_deck_add_element(
 ) -> u64
     ensures { λ r. ⌜ Sends edition stated (addElement identifier (now (s .entry))) (now (buf .entry)) r (now (buf .exit)) ⌝ }
 {
-    pack(add_element::add_element(edition, buf, stated as usize, identifier, s))
+    packed::pack(add_element::add_element(edition, buf, stated as usize, identifier, s))
 }
 
 // Adds a word to the list that is the last element of the last rule.
@@ -252,5 +241,5 @@ pub extern "C" fn rule_deck_add_element(
 pub extern "C" fn rule_deck_add_word(edition: u64, buf: &mut [u8], stated: u64, word: &[u8]) -> u64
     ensures { λ r. ⌜ Sends edition stated (addWord (now (word .entry))) (now (buf .entry)) r (now (buf .exit)) ⌝ }
 {
-    pack(word::add_word(edition, buf, stated as usize, word))
+    packed::pack(word::add_word(edition, buf, stated as usize, word))
 }

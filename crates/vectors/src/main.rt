@@ -421,8 +421,8 @@ fn call_deck(v: &[u8], s: &[u8], got: &mut [u8]) -> Said
         5 => told(deck::check(edition, s), 0),
         6 => call_read(edition, s, table_length(k), table_length(e), got),
         7 => call_view(
-            view::name_place(edition, s, k),
-            view::name(edition, s, k),
+            name_view::name_place(edition, s, k),
+            name_view::name(edition, s, k),
             got,
         ),
         _ => call_view(
@@ -505,8 +505,8 @@ fn edit(v: &[u8], buf: &mut [u8], second: &[u8], third: &[u8]) -> Outcome {
     match byte(v, 0) {
         3 => put_value(v, buf),
         10 => start::start(buf),
-        11 => change::switch(edition, buf, n, k, number(v, 3) == 1),
-        12 => change::rename(edition, buf, n, k, second),
+        11 => switch::switch(edition, buf, n, k, number(v, 3) == 1),
+        12 => rename::rename(edition, buf, n, k, second),
         13 => remove::remove(edition, buf, n, k),
         14 => insert::insert(edition, buf, n, k, second, number(v, 3)),
         _ => grow(v, buf, second, third),

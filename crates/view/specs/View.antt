@@ -1,24 +1,14 @@
--- Views, and the view of a name: document 01, "Tables and views".
-use Prim.Native.Nat.{ℕ, _+_, _*_, _/_}
+-- Views: document 01, "Tables and views".
+use Prim.Native.Nat.{ℕ, _+_, _/_}
 use mathlib.Core.Path.{_≡_}
 use mathlib.Core.List.{List, [], _∷_}
-use lib.ListN.{length, take, drop}
+use lib.ListN.{take, drop}
 use Rattle.format.specs.declared.Outcome.{Outcome}
 use Rattle.format.specs.declared.Outcome.the-variants as Outcome
 use Rattle.format.specs.Fault.{Said}
 use Rattle.text.specs.Text.{formOf}
-use Rattle.rule.specs.Rule.{Rule}
-use Rattle.rule.specs.Places.{unitsAt}
-use Rattle.view.specs.Asked.{asked}
 use Rattle.view.specs.declared.View.{View}
 use Rattle.view.specs.declared.View.the-variants.{At, No}
-
--- the name of a rule that starts at a place: "exactly the bytes of its units"
-abbrev pub nameAt : ℕ → Rule → View
-nameAt at r = At (unitsAt at r) (2 * length (r .name))
-
-unfoldable pub nameView : ℕ → ℕ → List ℕ → View
-nameView edition k s = asked No (λ p. nameAt) edition k s
 
 -- "a refused view is the empty part at the start"
 abbrev pub shown : View → List ℕ → List ℕ

@@ -1,5 +1,4 @@
-// Views: the name of a rule as a part of the deck's bytes.
-use deck::Scan;
+// Views: a part of a slice, by its first byte and its length.
 use format::Fault;
 use format::Outcome;
 use format::Read;
@@ -7,9 +6,8 @@ ghost use mathlib.Core.Path.{_≡_};
 ghost use mathlib.Core.List.{[]};
 ghost use lib.ListN.{length};
 ghost use denote.Ref.{ptr};
-ghost use Rattle.view.specs.Laws.Asked.{Tells};
-ghost use Rattle.view.specs.Laws.View.{unitsOf, Inside, within, noView};
-ghost use Rattle.view.specs.View.{nameAt, nameView, PartOf, viewSays};
+ghost use Rattle.view.specs.Laws.View.{unitsOf, within, noView};
+ghost use Rattle.view.specs.View.{PartOf, viewSays};
 
 // What a view answers: its first byte and how many bytes it is; or a fault with its place.
 pub enum View {
@@ -45,32 +43,6 @@ pub fn units_of(s: &[u8], t: Read) -> View
     View::At(e - 2 * units, 2 * units)
 }
 
-// The name of rule k of a sound deck.
-fn name_at(s: &[u8], k: u64) -> View
-    ensures { λ v. ⌜ Tells (now (s .entry)) k nameAt v × Inside v (length (now (s .entry))) ⌝ }
-{
-    let r = locate::start_of(s, k);
-    let Read::Got(_, at) = r else {
-        return no_view(format::end_says(r));
-    };
-    let t = locate::name_end(s, at);
-    units_of(s, t)
-}
-
-// The name of rule k: where its units stand and how many bytes they are.
-pub fn find_name(edition: u64, s: &[u8], k: u64) -> View
-    ensures { λ v. ⌜ (v ≡ nameView edition k (now (s .entry))) × Inside v (length (now (s .entry))) ⌝ }
-{
-    let c = deck::pass(edition, s);
-    let Scan::Is(n, _) = c else {
-        return no_view(deck::scan_says(c));
-    };
-    if n <= k {
-        return View::No(Fault::Absent, 0);
-    }
-    name_at(s, k)
-}
-
 // The empty part at the start.
 fn empty(s: &[u8]) -> &[u8]
     ensures { λ r. ⌜ (now r ≡ []) × (ptr r ≡ ptr (s .entry)) ⌝ }
@@ -103,20 +75,4 @@ pub fn place_of(v: View) -> Outcome
         View::At(a, _) => Outcome::Done(a),
         View::No(c, p) => Outcome::No(c, p),
     }
-}
-
-// The name of rule k as a part of the deck's bytes.
-pub fn name(edition: u64, s: &[u8], k: u64) -> &[u8]
-    ensures { λ r. ⌜ PartOf (nameView edition k (now (s .entry))) (now (s .entry)) (ptr (s .entry)) (now r) (ptr r) ⌝ }
-{
-    let v = find_name(edition, s, k);
-    part(s, v)
-}
-
-// The number and place of that view.
-pub fn name_place(edition: u64, s: &[u8], k: u64) -> Outcome
-    ensures { λ r. ⌜ r ≡ viewSays (nameView edition k (now (s .entry))) ⌝ }
-{
-    let v = find_name(edition, s, k);
-    place_of(v)
 }

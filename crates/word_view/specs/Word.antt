@@ -10,7 +10,7 @@ use Rattle.kind.specs.declared.Product.{Product}
 use Rattle.element.specs.Data.{Data, wordsOf}
 use Rattle.rule.specs.Rule.{Rule}
 use Rattle.walk.specs.Elements.{ofElement}
-use Rattle.view.specs.Asked.{asked}
+use Rattle.asked.specs.Asked.{asked}
 use Rattle.view.specs.declared.View.{View}
 use Rattle.view.specs.declared.View.the-variants.{At, No}
 

@@ -17,7 +17,7 @@ ghost use Rattle.text.specs.Text.{word};
 ghost use Rattle.element.specs.Data.{wordData, dataOf};
 ghost use Rattle.rule.specs.Rule.{rule};
 ghost use Rattle.walk.specs.Laws.Elements.{Carries};
-ghost use Rattle.view.specs.Laws.Asked.{Finds};
+ghost use Rattle.asked.specs.Laws.Asked.{Finds};
 ghost use Rattle.word_view.specs.Laws.Word.{Words};
 ghost use Rattle.word_view.specs.Word.{dataWord, ruleWord, wordView};
 ghost use Rattle.view.specs.Laws.View.{Inside};

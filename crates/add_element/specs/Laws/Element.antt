@@ -34,12 +34,14 @@ use Rattle.buffer.specs.Laws.Laid.{put-both}
 use Rattle.buffer.specs.Laws.Holds.{Holds, holds-put, holds-behind}
 use Rattle.locate.specs.Laws.Located.{lastOf}
 use Rattle.locate.specs.Laws.Steps.{Here, nameEnd}
-use Rattle.plan.specs.Given.{given}
-use Rattle.plan.specs.Laws.Element.{later-written}
+use Rattle.given.specs.Given.{given}
+use Rattle.given.specs.Laws.Element.{later-written}
 use Rattle.plan.specs.Edit.{Plan, become, addElement, edited, holding, unlessFull, atGiven}
 use Rattle.plan.specs.Laws.Found.{MakesAs, Does}
 use Rattle.plan.specs.Laws.Last.{rules-none, among, as-many, on-none, on-last}
-use Rattle.plan.specs.Laws.Makes.{written-here, full, not-full, at-given, no-given, made-no, made-given, made-large, made-room, made-is}
+use Rattle.room.specs.Room.{roomFor}
+use Rattle.room.specs.Laws.Room.{roomy}
+use Rattle.plan.specs.Laws.Makes.{written-here, full, not-full, at-given, no-given, made-no, made-given, made-out, made-in}
 
 -- 8001, the identifier, the data
 unfoldable pub laterBytes : ℕ → List ℕ → List ℕ
@@ -106,13 +108,13 @@ back-more k xs x E e =
     let s : 2 + (length (headBytes k) + length (inner xs ++ E)) ≡ 2 + (length (headBytes k) + length (inner xs)) + length E = omega (arith, length-append (inner xs) E) in
     rw (i, s, length-append xs (x ∷ []))
 
--- whatever sound deck is in the first n bytes, its last rule having a name that ends at e and c elements: the element x, whose bytes are these, is added
-unfoldable pub Grows : ℕ → ℕ → ℕ → ℕ → List ℕ → List ℕ → Outcome → List ℕ → Type 0
-Grows n e c id s d r d′ =
-    (p : Product) (rs : List Rule) (k : ℕ) (x : Element) (h : Here p (take n d) rs k) → h .later ≡ [] → n ≤ length d → length rs ≤ 256 → e ≡ startOf rs k + 4 + length (string .write (h .r .name)) → c ≡ length (h .r .elements) → placed Studio c .write x ≡ laterBytes id s
+-- whatever sound deck of m rules is in the first n bytes, its last rule having a name that ends at e and c elements: the element x, whose bytes are these, is added
+unfoldable pub Grows : ℕ → ℕ → ℕ → ℕ → ℕ → List ℕ → List ℕ → Outcome → List ℕ → Type 0
+Grows n m e c id s d r d′ =
+    (p : Product) (rs : List Rule) (k : ℕ) (x : Element) (h : Here p (take n d) rs k) → h .later ≡ [] → n ≤ length d → m ≡ length rs → e ≡ startOf rs k + 4 + length (string .write (h .r .name)) → c ≡ length (h .r .elements) → placed Studio c .write x ≡ laterBytes id s
     → Does n (become (take k rs ++ (holding (h .r .elements ++ (x ∷ [])) (h .r) ∷ []))) d r d′
 
-module _ (n e c id : ℕ) (s d : List ℕ) where
+module _ (n m e c id : ℕ) (s d : List ℕ) where
   -- the deck of the edited list
   grown-written : {p : Product} {rs : List Rule} {k : ℕ} (x : Element) (h : Here p (take n d) rs k) → h .later ≡ [] → n ≤ length d → e ≡ startOf rs k + 4 + length (string .write (h .r .name)) → c ≡ length (h .r .elements) → placed Studio c .write x ≡ laterBytes id s → k < length rs
       → written (take k rs ++ (holding (h .r .elements ++ (x ∷ [])) (h .r) ∷ [])) ≡ before (length rs) (take k rs) ++ (front (h .r) ++ (spelt 4 (n + 6 + length s - (e + 24)) ++ (spelt 2 (c + 1) ++ (headBytes k ++ (inner (h .r .elements) ++ laterBytes id s)))))
@@ -133,30 +135,26 @@ module _ (n e c id : ℕ) (s d : List ℕ) where
       let E = laterBytes id s in
       omega (arith, length-append B (F ++ (spelt 4 S ++ (spelt 2 C ++ (headBytes k ++ (I ++ E))))), length-append F (spelt 4 S ++ (spelt 2 C ++ (headBytes k ++ (I ++ E)))), length-append (spelt 4 S) (spelt 2 C ++ (headBytes k ++ (I ++ E))), length-append (spelt 2 C) (headBytes k ++ (I ++ E)), length-append (headBytes k) (I ++ E), length-append I E, length-append B F, length-spelt 4 S, length-spelt 2 C, later-long id s, front-ends n d h z w g, size-ends n d h z w g)
 
-  pub grow-large : 60000 < n + 6 + length s → Grows n e c id s d (Outcome.No Fault.Large 0) d
-  unfolding Grows
-  grow-large l p rs k x h z w f g cs b =
-      let t = grown-written x h z w g cs b (among h) in
-      made-large n d refl (rw (as-many h _ z) f) (rw t (rw (grown-long h _ _ z w g) l))
-
-  pub grow-room : n + 6 + length s ≤ 60000 → length d < n + 6 + length s → Grows n e c id s d (Outcome.No Fault.Room 0) d
-  unfolding Grows
-  grow-room l m p rs k x h z w f g cs b =
-      let t = grown-written x h z w g cs b (among h) in
-      made-room n d refl (rw (as-many h _ z) f) (rw t (rw (grown-long h _ _ z w g) l)) (rw t (rw (grown-long h _ _ z w g) m))
-
   -- never, of a sound deck
-  pub grow-short : (r : Outcome) (d′ : List ℕ) → n + 6 + length s < e + 24 → Grows n e c id s d r d′
+  pub grow-short : (r : Outcome) (d′ : List ℕ) → n + 6 + length s < e + 24 → Grows n m e c id s d r d′
   unfolding Grows
   grow-short r d′ l p rs k x h z w f g cs b = absurd (omega (arith, size-ends n d h z w g))
 
-  pub grow-done : {y₁ y₂ y₃ : List ℕ} → n + 6 + length s ≤ 60000 → n + 6 + length s ≤ length d → y₁ ≡ putIn d n (laterBytes id s) → y₂ ≡ putIn y₁ (e + 20) (spelt 4 (n + 6 + length s - (e + 24))) → y₃ ≡ putIn y₂ (e + 24) (spelt 2 (c + 1))
-      → Grows n e c id s d (Outcome.Done (n + 6 + length s)) y₃
-  unfolding Grows
-  grow-done l m e₁ e₂ e₃ p rs k x h z w f g cs b =
-      let E = later-long id s in
-      made-is n d (grown-holds n d h z w g (laterBytes id s) _ _ (omega arith) e₁ e₂ e₃) refl (sym (grown-written x h z w g cs b (among h)))
-      (grown-long h _ _ z w g) (omega arith) (rw (as-many h _ z) f) l
+  -- o is what 18, 19 and 20 were judged as
+  module _ {o : Outcome} where
+    pub grow-out : o ≡ roomFor m (n + 6 + length s) (length d) → ((v : ℕ) → o ≡ Outcome.Done v → ⊥) → Grows n m e c id s d o d
+    unfolding Grows
+    grow-out j i p rs k x h z w f g cs b =
+        made-out n d refl j i (f ∙ sym (as-many h _ z)) (sym (ap length (grown-written x h z w g cs b (among h)) ∙ grown-long h _ _ z w g))
+
+    pub grow-done : {y₁ y₂ y₃ : List ℕ} {v : ℕ} → o ≡ roomFor m (n + 6 + length s) (length d) → o ≡ Outcome.Done v → y₁ ≡ putIn d n (laterBytes id s) → y₂ ≡ putIn y₁ (e + 20) (spelt 4 (n + 6 + length s - (e + 24))) → y₃ ≡ putIn y₂ (e + 24) (spelt 2 (c + 1))
+        → Grows n m e c id s d o y₃
+    unfolding Grows
+    grow-done j i e₁ e₂ e₃ p rs k x h z w f g cs b =
+        let E = later-long id s in
+        let l = roomy m (n + 6 + length s) (length d) j i .inside in
+        made-in n d j i (grown-holds n d h z w g (laterBytes id s) _ _ (omega arith) e₁ e₂ e₃) refl (sym (grown-written x h z w g cs b (among h)))
+        (grown-long h _ _ z w g) (omega arith) (f ∙ sym (as-many h _ z))
 
 -- ---- what is judged before
 
@@ -203,7 +201,7 @@ module _ (p : Product) (n m a id : ℕ) (s d : List ℕ) where
             let v′ = made-given n d (not-full _ _ (rw (b .0) at j) ∙ no-given _ (u .is ∙ ap (refused x) (sym (u .ends ∙ zero-add (u .o))))) in
             (c′ ∙ v′ .0, v′ .1))
 
-        pub element-done : (r : Outcome) (d′ : List ℕ) {v o : ℕ} → (m ≡ 0 → ⊥) → e ≡ nameEnd d a → z ≡ seen itself (number 2) d (e + 24) → z ≡ Read.Got c q → c < 64 → Bytes s → t ≡ told 0 none (given p id s) → t ≡ Read.Got v o → Grows n e c id s d r d′ → MakesAs p lastOf n m a (addElement id s) d r d′
+        pub element-done : (r : Outcome) (d′ : List ℕ) {v o : ℕ} → (m ≡ 0 → ⊥) → e ≡ nameEnd d a → z ≡ seen itself (number 2) d (e + 24) → z ≡ Read.Got c q → c < 64 → Bytes s → t ≡ told 0 none (given p id s) → t ≡ Read.Got v o → Grows n m e c id s d r d′ → MakesAs p lastOf n m a (addElement id s) d r d′
         unfolding Grows laterBytes edited
         element-done r d′ l g f k j bs gt th w′ =
             let u = told-got 0 none (given p id s) gt th in

@@ -32,12 +32,14 @@ use Rattle.buffer.specs.Laws.Laid.{put-both}
 use Rattle.buffer.specs.Laws.Holds.{Holds, holds-put, holds-behind}
 use Rattle.locate.specs.Laws.Located.{lastOf}
 use Rattle.locate.specs.Laws.Steps.{Sound}
-use Rattle.plan.specs.Given.{isText, units, given}
-use Rattle.plan.specs.Laws.Element.{first-written}
+use Rattle.given.specs.Given.{isText, units, given}
+use Rattle.given.specs.Laws.Element.{first-written}
 use Rattle.plan.specs.Edit.{become, addRule, edited, newRule}
 use Rattle.plan.specs.Laws.Found.{MakesAs, Does}
 use Rattle.plan.specs.Laws.Last.{rules-none}
-use Rattle.plan.specs.Laws.Makes.{if-text, no-text, at-given, no-given, made-no, made-given, made-rules, made-large, made-room, made-is}
+use Rattle.room.specs.Room.{roomFor}
+use Rattle.room.specs.Laws.Room.{roomy}
+use Rattle.plan.specs.Laws.Makes.{if-text, no-text, at-given, no-given, made-no, made-given, made-out, made-in}
 use Rattle.parts.specs.Laws.Text.{textBytes, textSize, text-size, text-is}
 
 -- ---- the bytes of a new rule
@@ -189,30 +191,25 @@ module _ (n m : ℕ) (name : List ℕ) (f : Fields) (id : ℕ) (s d : List ℕ) 
       let i : take n d ++ R ≡ opening ++ (spelt 2 (length rs) ++ (rules 0 rs ++ R)) = rw (deck-parts rs o) (simp append-assoc) in
       holds-put opening (spelt 2 (length rs)) (rules 0 rs ++ R) (spelt 2 (m + 1)) (holds-behind d n R (omega arith) e₂′) i opening-long (length-spelt 2 (length rs) ∙ sym (length-spelt 2 (m + 1))) e₃
 
-  pub extend-rules : m ≡ 256 → Extends n m name f id s d (Outcome.No Fault.Rules 0) d
-  unfolding Extends
-  extend-rules e p rs x o w em b t = made-rules n d refl (omega (arith, added-many rs (newRule (units name) f x)))
-
-  -- size is what a String of the name takes, head the head of the rule
-  module _ {size head : ℕ} where
-    pub extend-large : isText name ≡ true → size ≡ textSize name → head ≡ length (headBytes m) → m < 256 → 60000 < n + 24 + size + 10 + head + length s → Extends n m name f id s d (Outcome.No Fault.Large 0) d
+  -- size is what a String of the name takes, head the head of the rule, end the new length; o is what 18, 19 and 20 were judged as
+  module _ {size head : ℕ} {o : Outcome} where
+    pub extend-out : isText name ≡ true → size ≡ textSize name → head ≡ length (headBytes m) → o ≡ roomFor (m + 1) (n + 24 + size + 10 + head + length s) (length d) → ((v : ℕ) → o ≡ Outcome.Done v → ⊥) → Extends n m name f id s d o d
     unfolding Extends
-    extend-large it z hz l g p rs x o w em b t =
-        made-large n d refl (omega (arith, added-many rs (newRule (units name) f x))) (rw (added-written rs x em b t) (omega (arith, added-long rs o w, text-size name it)))
-
-    pub extend-room : isText name ≡ true → size ≡ textSize name → head ≡ length (headBytes m) → m < 256 → n + 24 + size + 10 + head + length s ≤ 60000 → length d < n + 24 + size + 10 + head + length s → Extends n m name f id s d (Outcome.No Fault.Room 0) d
-    unfolding Extends
-    extend-room it z hz l g v p rs x o w em b t =
-        made-room n d refl (omega (arith, added-many rs (newRule (units name) f x))) (rw (added-written rs x em b t) (omega (arith, added-long rs o w, text-size name it))) (rw (added-written rs x em b t) (omega (arith, added-long rs o w, text-size name it)))
-
-    pub extend-done : {y₁ y₂ y₃ : List ℕ} → isText name ≡ true → size ≡ textSize name → head ≡ length (headBytes m) → m < 256 → n + 24 + size + 10 + head + length s ≤ 60000 → n + 24 + size + 10 + head + length s ≤ length d
-        → y₁ ≡ putIn d n (frontBytes name f) → y₂ ≡ putIn y₁ (n + 24 + size) (backBytes m id s) → y₃ ≡ putIn y₂ 5 (spelt 2 (m + 1)) → Extends n m name f id s d (Outcome.Done (n + 24 + size + 10 + head + length s)) y₃
-    unfolding Extends
-    extend-done it z hz l g v e₁ e₂ e₃ p rs x o w em b t =
+    extend-out it z hz j h p rs x i w em b t =
         let lt = text-size name it in
-        let al = added-long rs o w in
+        let al = added-long rs i w in
+        let e : n + 24 + size + 10 + head + length s ≡ length (written (rs ++ (newRule (units name) f x ∷ []))) = rw (added-written rs x em b t) (omega arith) in
+        made-out n d refl j h (ap (λ (k : ℕ). k + 1) em ∙ sym (added-many rs (newRule (units name) f x))) e
+
+    pub extend-done : {y₁ y₂ y₃ : List ℕ} {v : ℕ} → isText name ≡ true → size ≡ textSize name → head ≡ length (headBytes m) → o ≡ roomFor (m + 1) (n + 24 + size + 10 + head + length s) (length d) → o ≡ Outcome.Done v
+        → y₁ ≡ putIn d n (frontBytes name f) → y₂ ≡ putIn y₁ (n + 24 + size) (backBytes m id s) → y₃ ≡ putIn y₂ 5 (spelt 2 (m + 1)) → Extends n m name f id s d o y₃
+    unfolding Extends
+    extend-done it z hz j h e₁ e₂ e₃ p rs x i w em b t =
+        let lt = text-size name it in
+        let al = added-long rs i w in
         let lr = rule-size m name f id s in
-        made-is n d (added-holds rs o w (omega arith) (omega arith) e₁ e₂ e₃) refl (sym (added-written rs x em b t)) (omega arith) (omega arith) (omega (arith, added-many rs (newRule (units name) f x))) g
+        let l = roomy (m + 1) (n + 24 + size + 10 + head + length s) (length d) j h .inside in
+        made-in n d j h (added-holds rs i w (omega arith) (omega arith) e₁ e₂ e₃) refl (sym (added-written rs x em b t)) (omega arith) (omega arith) (ap (λ (k : ℕ). k + 1) em ∙ sym (added-many rs (newRule (units name) f x)))
 
 -- ---- what is judged before
 

@@ -24,15 +24,16 @@ use Rattle.element.specs.Element.{Element}
 use Rattle.rule.specs.Rule.{Rule, elementsIn}
 use Rattle.deck.specs.Deck.{readAs, readBy, readDeck, answered, scanned, scanSays}
 use Rattle.plan.specs.Edit.{Edit, switch, rename, remove, insert, addRule, addElement, addWord, Plan, become, refuse, refuseGiven, planned, says, Edits}
-use Rattle.plan.specs.Given.{given}
+use Rattle.given.specs.Given.{given}
 use Rattle.plan.specs.Handed.{Handed}
 use Rattle.tables.specs.Tables.{ruleWidth, elementWidth, inTables, tabled, readSays}
 use Rattle.view.specs.declared.View.{View}
 use Rattle.view.specs.declared.View.the-variants as View
 use Rattle.fixed.specs.declared.Fielded.{Fielded}
 use Rattle.fixed.specs.declared.Fielded.the-variants as Fielded
-use Rattle.view.specs.Asked.{asked, askedBy, askedOf, askedFirst}
-use Rattle.view.specs.View.{nameAt, nameView, viewSays}
+use Rattle.asked.specs.Asked.{asked, askedBy, askedOf, askedFirst}
+use Rattle.view.specs.View.{viewSays}
+use Rattle.name_view.specs.Name.{nameAt, nameView}
 use Rattle.word_view.specs.Word.{wordAt, ruleWord, wordView}
 use Rattle.word_view.specs.Laws.Word.{elementWord}
 use Rattle.fixed.specs.Fixed.{fixedAt, fixedFields, fieldsSay, fieldsAnswer}

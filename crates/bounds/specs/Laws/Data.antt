@@ -23,7 +23,7 @@ use Rattle.kind.specs.declared.Row.the-variants as Row
 use Rattle.kind.specs.Kinds.{kinds, has, rowIn, inProduct, offered, rowOf, kindSays}
 use Rattle.kind.specs.Laws.Kinds.{lacking, foreign}
 use Rattle.element.specs.Data.{oneZero, markerData, simpleData, wordCount, wordData, sizeData, limit, dateData, dataOf}
-use Rattle.plan.specs.Given.{given, givenBy, withData}
+use Rattle.given.specs.Given.{given, givenBy, withData}
 use Rattle.bounds.specs.Laws.Bounded.{Bounded, bounded-number, bounded-nothing, bounded-pick, bounded-judged, bounded-via, bounded-start, bounded-pair, bounded-then, bounded-fixed, bounded-flag, bounded-count, bounded-listed}
 use Rattle.bounds.specs.Calls.{most}
 

@@ -24,7 +24,7 @@ use Rattle.kind.specs.Kinds.{rowOf}
 use Rattle.element.specs.Data.{dataOf}
 use Rattle.rule.specs.Rule.{Rule, rule}
 use Rattle.deck.specs.Deck.{mark, ruleCount, header, deck, readAs}
-use Rattle.plan.specs.Given.{given, givenBy, withData}
+use Rattle.given.specs.Given.{given, givenBy, withData}
 use Rattle.bounds.specs.Calls.{most, elementNumbers}
 use Rattle.bounds.specs.Laws.Data.{row-refuses, given-end, whole-end}
 use Rattle.bounds.specs.Laws.Faults.{For, Gives, for-refused, for-mapped, for-shift, for-whole, gives-each, gives-count, gives-data, gives-rule}

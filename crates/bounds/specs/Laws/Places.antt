@@ -24,15 +24,16 @@ use Rattle.rule.specs.Rule.{Rule, elementsIn}
 use Rattle.deck.specs.Deck.{readAs, readBy, readDeck, answered}
 use Rattle.deck.specs.Laws.Deck.{place-small, read-writes-back}
 use Rattle.deck.specs.Written.{startOf}
-use Rattle.plan.specs.Given.{given}
+use Rattle.given.specs.Given.{given}
 use Rattle.plan.specs.Edit.{Edit, switch, rename, remove, insert, addRule, addElement, addWord, Plan, become, refuse, refuseGiven, planned, says}
 use Rattle.plan.specs.Handed.{Handed}
 use Rattle.tables.specs.Tables.{ruleWidth, elementWidth, inTables, tabled, readSays}
 use Rattle.view.specs.declared.View.{View}
 use Rattle.view.specs.declared.View.the-variants.{At, No}
-use Rattle.view.specs.Asked.{asked, askedBy, askedOf, askedFirst}
+use Rattle.asked.specs.Asked.{asked, askedBy, askedOf, askedFirst}
 use Rattle.view.specs.Laws.View.{Inside}
-use Rattle.view.specs.View.{nameAt, nameView, viewSays}
+use Rattle.view.specs.View.{viewSays}
+use Rattle.name_view.specs.Name.{nameAt, nameView}
 use Rattle.word_view.specs.Word.{wordAt, ruleWord, wordView}
 use Rattle.word_view.specs.Laws.Word.{elementWord}
 use Rattle.bounds.specs.Calls.{most, judges, owns, Gift, nothing, aDeck, anElement, givenTo}

@@ -8,6 +8,7 @@ use lib.ListN.{length, take}
 use borrow.Author.Tests.{leb-true}
 use Rattle.format.specs.declared.Fault.{Fault}
 use Rattle.format.specs.declared.Fault.the-variants as Fault
+use Rattle.format.specs.declared.Outcome.{Outcome}
 use Rattle.format.specs.Format.{Answer, got, refused, pick}
 use Rattle.kind.specs.declared.Product.{Product}
 use Rattle.kind.specs.declared.Edition.{Edition}
@@ -18,8 +19,10 @@ use Rattle.element.specs.Element.{Element}
 use Rattle.rule.specs.Rule.{Rule}
 use Rattle.deck.specs.Deck.{readAs}
 use Rattle.deck.specs.Written.{written}
-use Rattle.plan.specs.Given.{given}
-use Rattle.plan.specs.Edit.{Edit, switch, rename, remove, insert, addRule, addElement, addWord, Plan, become, refuse, refuseGiven, atRule, atCopy, atSecond, atLast, atList, unlessFull, ifText, atGiven, edited, room, inRoom, plan, planBy, planned}
+use Rattle.room.specs.Room.{roomFor}
+use Rattle.room.specs.Laws.Room.{Judged, done, many, large, full, room-judged}
+use Rattle.given.specs.Given.{given}
+use Rattle.plan.specs.Edit.{Edit, switch, rename, remove, insert, addRule, addElement, addWord, Plan, become, refuse, refuseGiven, atRule, atCopy, atSecond, atLast, atList, unlessFull, ifText, atGiven, edited, fitted, inRoom, plan, planBy, planned}
 use Rattle.bounds.specs.Calls.{judges, owns, Gift, givenTo, nothing, aDeck, anElement}
 
 -- a plan that is refused, if it is, as they say; and what is known of the list that it becomes
@@ -116,14 +119,14 @@ module _ (N G : Fault → ℕ → Type 0) where
   only-edited p (addWord word) rs j h = only-last _ _ (j .0) (λ r. only-list _ _ (j .0) (λ id ws. only-full _ _ (j .1 .0) (only-text word _ (j .1 .1 .0) tt)))
 
   only-room : (e : Edit) → Each N (owns e) → (cap : ℕ) (q : Plan) → Only Any N G q → Only NotLarge N G (inRoom cap q)
-  unfolding room pick Each
-  only-room e o cap (become rs) f = few (leb (length rs) 256) (leb (length (written rs)) 60000) refl (leb (length (written rs)) cap)
+  unfolding Each
+  only-room e o cap (become rs) f = few (roomFor (length rs) (length (written rs)) cap) (room-judged (length rs) (length (written rs)) cap)
     where
-      few : (a b : Bool) → leb (length (written rs)) 60000 ≡ b → (c : Bool) → Only NotLarge N G (pick a (pick b (pick c (become rs) (refuse Fault.Room 0)) (refuse Fault.Large 0)) (refuse Fault.Rules 0))
-      few true true l true = leb-true (length (written rs)) 60000 l
-      few true true l false = o .1 .1 .1 .1 .0
-      few true false l c = o .1 .1 .1 .0
-      few false b l c = o .1 .1 .0
+      few : (r : Outcome) → Judged (length rs) (length (written rs)) cap r → Only NotLarge N G (fitted r rs)
+      few r (done w) = w .short
+      few r full = o .1 .1 .1 .1 .0
+      few r large = o .1 .1 .1 .0
+      few r many = o .1 .1 .0
   only-room e o cap (refuse c q) f = f
   only-room e o cap (refuseGiven c q) f = f
 

@@ -32,12 +32,13 @@ use Rattle.value.specs.Value.{valueSays, valueAnswer, fromData, fromKind, fromR
 use Rattle.put.specs.Plan.{Fitted, holds, lacks, fromSpan, fromValue, isOf, fitted, write, deny, ifRoom, planData, planKind, planRow, planEdition, putting, putSays}
 use Rattle.view.specs.declared.View.{View}
 use Rattle.view.specs.declared.View.the-variants as View
-use Rattle.view.specs.View.{viewSays, partSays, nameView}
+use Rattle.view.specs.View.{viewSays, partSays}
+use Rattle.name_view.specs.Name.{nameView}
 use Rattle.word_view.specs.Word.{wordView}
 use Rattle.fixed.specs.declared.Fielded.{Fielded}
 use Rattle.fixed.specs.declared.Fielded.the-variants as Fielded
 use Rattle.fixed.specs.Fixed.{fixedFields, fieldsSay, fieldsAnswer}
-use Rattle.plan.specs.Given.{given, givenBy, withData}
+use Rattle.given.specs.Given.{given, givenBy, withData}
 use Rattle.bounds.specs.Listed.{Numbers, exactly, allowed, Lists}
 use Rattle.bounds.specs.Calls.{elementNumbers, viewNumbers, kindNumbers, momentNumbers, valueNumbers, putNumbers}
 use Rattle.bounds.specs.Laws.Data.{row-refuses}

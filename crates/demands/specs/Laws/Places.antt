@@ -30,7 +30,7 @@ use Rattle.deck.specs.Deck.{readAs}
 use Rattle.deck.specs.Laws.Deck.{read-writes-back, deck-row}
 use Rattle.deck.specs.Written.{startOf}
 use Rattle.deck.specs.Laws.Written.{start-as}
-use Rattle.plan.specs.Given.{units}
+use Rattle.given.specs.Given.{units}
 use Rattle.demands.specs.Places.{Between, UnitsOf, elementStart}
 
 -- ---- what stands at a place

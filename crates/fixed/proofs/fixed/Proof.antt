@@ -2,7 +2,7 @@ use native.Mathlib.Omega.{arith}
 use Rattle.format.specs.Laws.Format.{bytes-all}
 use Rattle.fixed.specs.Fixed.{fixedFields}
 use Rattle.fixed.specs.Laws.Fixed.{noFields, fields-say}
-use Rattle.view.specs.Laws.Asked.{asked-refused, asked-absent, asked-is}
+use Rattle.asked.specs.Laws.Asked.{asked-refused, asked-absent, asked-is}
 use mathlib.Core.Path.{ap, _∙_}
 use Rattle.deck.specs.Deck.{scanSays}
 use borrow.Author.Needs.{needs}

@@ -30,6 +30,7 @@ use Rattle.deck.specs.Deck.{readAs, readBy, readDeck}
 use Rattle.deck.specs.Laws.Written.{before, before-long, opening, opening-long, rules, rules-cons, written-is}
 use Rattle.deck.specs.Written.{startOf, written}
 use Rattle.buffer.specs.Laid.{putIn}
+use Rattle.room.specs.Room.{roomFor}
 use Rattle.buffer.specs.Laws.Holds.{Holds, Gap, holds-put, holds-fill}
 use Rattle.locate.specs.declared.Spot.{Spot}
 use Rattle.locate.specs.declared.Spot.the-variants as Spot
@@ -37,7 +38,7 @@ use Rattle.locate.specs.Laws.Located.{located, spotSays}
 use Rattle.locate.specs.Laws.Steps.{Sound, sound-read, Here, here, here-stands, nameRead, nameEnd, name-end, name-never, start-within, start-past}
 use Rattle.plan.specs.Edit.{Plan, become, refuse, refuseGiven, atCopy, atSecond, insert, edited}
 use Rattle.plan.specs.Laws.Found.{Makes, Does, Within, found, ground, found-within}
-use Rattle.plan.specs.Laws.Makes.{made-no, made-given, made-rules, made-large, made-room, made-is}
+use Rattle.plan.specs.Laws.Makes.{made-no, made-given, made-out, made-in}
 use Rattle.insert.specs.Laws.Copy.{copied, copySize, copied-is, copied-long}
 use Rattle.insert.specs.Laws.Place.{lost, lost-small, lost-later, Opens, rules-lose, parts-at}
 
@@ -135,29 +136,19 @@ module _ (n k m a b : ℕ) (f c l d : List ℕ) where
           let h = holds-fill (before m (take k rs)) (rules (k + 1) (drop k rs)) (copied f c l k) g (before-long m (take k rs) ∙ sym ea) (el ∙ sym (copied-long f c l k lc)) e₂ in
           rw (written-with rs k q (omega arith), ← x, ← em, ← el) (counted-holds m (m + 1) (take k rs) _ h e₃)
 
-  -- 18, 19, 20
-  pub inserts-rules : 256 ≤ m → Inserts n k m a b f c l d (Outcome.No Fault.Rules 0) d
-  unfolding Inserts Whatever
-  inserts-rules h p rs q o w em ea eb ef ec ez = made-rules n d refl (omega (arith, with-long rs k q))
-
-  -- new is the new length
-  module _ (new : ℕ) where
-    pub inserts-large : 60000 < new → m < 256 → k ≤ m → new ≡ n + (copySize f l k - lost k m) → Inserts n k m a b f c l d (Outcome.No Fault.Large 0) d
+  -- 18, 19, 20: o is what was judged, new the new length
+  module _ {o : Outcome} (new : ℕ) where
+    pub inserts-out : o ≡ roomFor (m + 1) new (length d) → ((v : ℕ) → o ≡ Outcome.Done v → ⊥) → k ≤ m → new ≡ n + (copySize f l k - lost k m) → Inserts n k m a b f c l d o d
     unfolding Inserts Whatever
-    inserts-large g h i e p rs q o w em ea eb ef ec ez =
-        made-large n d refl (omega (arith, with-long rs k q)) (rw (with-size rs k q n d p o w (omega arith), ← em, ← ef, ← ez, ← e) g)
+    inserts-out j h i e p rs q s w em ea eb ef ec ez =
+        let v : length (written (with k rs q)) ≡ new = rw (with-size rs k q n d p s w (omega arith), ← em, ← ef, ← ez, ← e) refl in
+        made-out n d refl j h (ap (λ (z : ℕ). z + 1) em ∙ sym (with-long rs k q)) (sym v)
 
-    pub inserts-room : length d < new → m < 256 → k ≤ m → new ≡ n + (copySize f l k - lost k m) → new ≤ 60000 → Inserts n k m a b f c l d (Outcome.No Fault.Room 0) d
-    unfolding Inserts Whatever
-    inserts-room u h i e g p rs q o w em ea eb ef ec ez =
-        let v : length (written (with k rs q)) ≡ new = rw (with-size rs k q n d p o w (omega arith), ← em, ← ef, ← ez, ← e) refl in
-        made-room n d refl (omega (arith, with-long rs k q)) (omega arith) (omega arith)
-
-    pub inserts-done : (z : List ℕ) → m < 256 → k ≤ m → new ≡ n + (copySize f l k - lost k m) → new ≤ 60000 → Copied n k m a b f c l d z → Inserts n k m a b f c l d (Outcome.Done new) z
+    pub inserts-done : (z : List ℕ) {v : ℕ} → o ≡ roomFor (m + 1) new (length d) → o ≡ Outcome.Done v → k ≤ m → new ≡ n + (copySize f l k - lost k m) → Copied n k m a b f c l d z → Inserts n k m a b f c l d o z
     unfolding Inserts Copied Whatever
-    inserts-done z h i e g x p rs q o w em ea eb ef ec ez =
-        let v : length (written (with k rs q)) ≡ new = rw (with-size rs k q n d p o w (omega arith), ← em, ← ef, ← ez, ← e) refl in
-        made-is n d (x p rs q o w em ea eb ef ec ez) refl refl v (sym e ∙ omega arith) (omega (arith, with-long rs k q)) g
+    inserts-done z j h i e x p rs q s w em ea eb ef ec ez =
+        let v : length (written (with k rs q)) ≡ new = rw (with-size rs k q n d p s w (omega arith), ← em, ← ef, ← ez, ← e) refl in
+        made-in n d j h (x p rs q s w em ea eb ef ec ez) refl refl v (sym e ∙ omega arith) (ap (λ (z : ℕ). z + 1) em ∙ sym (with-long rs k q))
 
 -- ---- the second deck
 

@@ -27,7 +27,7 @@ use Rattle.buffer.specs.Laws.Laid.{opened, moved, up}
 use Rattle.buffer.specs.Laws.Holds.{Holds, Gap, holds-start, holds-put, holds-open, holds-up}
 use Rattle.locate.specs.Laws.Steps.{Sound, Here, here, nameRead, nameEnd}
 use Rattle.plan.specs.Laws.Makes.{name-ends, name-there}
-use Rattle.parts.specs.Laws.Head.{head-long, head-short}
+use Rattle.head.specs.Laws.Head.{head-long, head-short}
 
 -- how many bytes the rules from place k of m lose where a rule comes before them: "The rule at place 0 always has the long head .. others have the short one"
 unfoldable pub lost : ℕ → ℕ → ℕ

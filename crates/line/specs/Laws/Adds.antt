@@ -1,13 +1,14 @@
 -- A line as it is put into a buffer, piece by piece.
 use Prim.Native.Nat.{ℕ, _+_, _-_, _≤_}
 use native.Mathlib.Omega.{arith}
-use mathlib.Core.Path.{_≡_, sym, ap, subst, _∙_}
+use mathlib.Core.Path.{_≡_, ap, subst, _∙_}
 use mathlib.Core.List.{List, [], _∷_, _++_}
-use lib.ListN.{length, take, drop, length-append, length-drop}
-use lib.Seq.{take-all}
+use lib.ListN.{length, take, drop, length-append}
 use Rattle.buffer.specs.Laid.{put, putIn}
 use Rattle.buffer.specs.Laws.Laid.{put-in, put-on}
-use Rattle.line.specs.Line.{decimal, spaced, Lined}
+use Rattle.digits.specs.Digits.{decimal, hexDigits}
+use Rattle.digits.specs.Laws.Digits.{decimal-length, spelt, hex-length}
+use Rattle.line.specs.Line.{spaced, Lined}
 
 -- bs behind the first `at` bytes of a buffer; what lies behind stays
 pub record Adds (d : List ℕ) (at : ℕ) (bs : List ℕ) (r : ℕ) (y : List ℕ) : Type 0 where
@@ -28,6 +29,9 @@ module _ {d y : List ℕ} {at : ℕ} {r : ℕ} where
 pub adds-line : {d y : List ℕ} {r : ℕ} {bs : List ℕ} → Adds d 0 bs r y → r ≤ length y → 96 ≡ length y → Lined d bs r y
 adds-line a h l = record { says = a .says ∙ omega arith; leaves = a .leaves; fits = h; long = l }
 
+pub lined-as : {d y : List ℕ} {r : ℕ} {cs bs : List ℕ} → Lined d cs r y → cs ≡ bs → Lined d bs r y
+lined-as {d} {y} {r} a e = subst (λ (l : List ℕ). Lined d l r y) e a
+
 -- the pieces of a line, one after the other from its start
 pub and : {d y x : List ℕ} {r m : ℕ} {cs bs : List ℕ} → Adds d 0 cs m x → Adds x m bs r y → Adds d 0 (cs ++ bs) r y
 and a b = adds-on a b (omega arith)
@@ -35,11 +39,16 @@ and a b = adds-on a b (omega arith)
 pub adds-as : {d y : List ℕ} {at r : ℕ} {cs bs : List ℕ} → Adds d at cs r y → cs ≡ bs → Adds d at bs r y
 adds-as {d} {y} {at} {r} a e = subst (λ (l : List ℕ). Adds d at l r y) e a
 
--- a space, then the digits that stand at the end of 20 bytes
-pub adds-number : (n i : ℕ) (p : List ℕ) {d y x : List ℕ} {at m r : ℕ} → Adds d at (0x20 ∷ []) m x → Adds x m (take (20 - i) (drop i p)) r y → at ≤ length d → drop i p ≡ decimal n → length p ≡ 20
-    → Adds d at (spaced (decimal n)) r y × (r ≤ at + 21)
-adds-number n i p {at = at} a b h e l =
-    let w : take (20 - i) (drop i p) ≡ decimal n = take-all (20 - i) (drop i p) (omega (arith, length-drop i p)) ∙ e in
-    let k : length (decimal n) ≡ 20 - i = sym (ap length e) ∙ length-drop i p ∙ ap (λ (j : ℕ). j - i) l in
-    let t : Adds _ at (spaced (decimal n)) _ _ = adds-as (adds-on a b h) (ap (λ (z : List ℕ). 0x20 ∷ z) w) in
-    (t, omega (arith, t .says, k))
+module _ {d y x : List ℕ} {at m r : ℕ} where
+  -- a space, then the digits that stand at the end of 20 bytes
+  pub adds-number : (n i : ℕ) (s : List ℕ) {p : List ℕ} → i ≡ 20 - length (decimal n) → p ≡ take i s ++ decimal n → Adds d at (0x20 ∷ []) m x → Adds x m (take (20 - i) (drop i p)) r y → at ≤ length d → length s ≡ 20
+      → Adds d at (spaced (decimal n)) r y × (r ≤ at + 21)
+  adds-number n i s h e a b k l =
+      let t : Adds d at (spaced (decimal n)) r y = adds-as (adds-on a b k) (ap (λ (z : List ℕ). 0x20 ∷ z) (spelt n i s h e l)) in
+      (t, omega (arith, t .says, decimal-length n))
+
+  -- a space, then the digits of an identifier
+  pub adds-identifier : (n : ℕ) {s : List ℕ} → s ≡ hexDigits n → Adds d at (0x20 ∷ []) m x → Adds x m s r y → at ≤ length d → Adds d at (spaced (hexDigits n)) r y × (r ≤ at + 9)
+  adds-identifier n e a b k =
+      let t : Adds d at (spaced (hexDigits n)) r y = adds-as (adds-on a b k) (ap (λ (z : List ℕ). 0x20 ∷ z) e) in
+      (t, omega (arith, t .says, hex-length n))

@@ -1,9 +1,10 @@
--- Document 01's listing, "One deck whole", line by line; and the longest number.
+-- Document 01's listing, "One deck whole", line by line.
 use mathlib.Core.Path.{_≡_, refl}
 use mathlib.Core.Bool.{true}
 use mathlib.Core.List.{[], _∷_}
 use Rattle.format.specs.Format.{pick}
-use Rattle.line.specs.Line.{decimalDigits, decimal, hexDigit, hexDigits, state, deckLine, ruleLine, elementLine, endLine, refusedLine}
+use Rattle.digits.specs.Digits.{decimalDigits, decimal, hexDigit, hexDigits}
+use Rattle.line.specs.Line.{state, deckLine, ruleLine, elementLine, endLine, refusedLine}
 
 -- `DECK 1 70`
 pub deck-whole : deckLine 70 ≡ 0x44 ∷ 0x45 ∷ 0x43 ∷ 0x4B ∷ 0x20 ∷ 0x31 ∷ 0x20 ∷ 0x37 ∷ 0x30 ∷ 0x0A ∷ []
@@ -30,9 +31,3 @@ end-whole = refl
 pub refused-whole : refusedLine 14 1 ≡ 0x52 ∷ 0x45 ∷ 0x46 ∷ 0x55 ∷ 0x53 ∷ 0x45 ∷ 0x44 ∷ 0x20 ∷ 0x31 ∷ 0x34 ∷ 0x20 ∷ 0x31 ∷ 0x0A ∷ []
 unfolding refusedLine decimal decimalDigits pick
 refused-whole = refl
-
--- 18446744073709551615
-pub longest : decimal 0xFFFF_FFFF_FFFF_FFFF ≡
-    0x31 ∷ 0x38 ∷ 0x34 ∷ 0x34 ∷ 0x36 ∷ 0x37 ∷ 0x34 ∷ 0x34 ∷ 0x30 ∷ 0x37 ∷ 0x33 ∷ 0x37 ∷ 0x30 ∷ 0x39 ∷ 0x35 ∷ 0x35 ∷ 0x31 ∷ 0x36 ∷ 0x31 ∷ 0x35 ∷ []
-unfolding decimal decimalDigits pick
-longest = refl

@@ -15,7 +15,7 @@ use Rattle.format.specs.Combinators.{pair, via, judged, nothing, atStart, numbe
 use Rattle.text.specs.Text.{extended, stringLength, string}
 use Rattle.buffer.specs.Laid.{putIn}
 use Rattle.buffer.specs.Laws.Laid.{put-out, put-both}
-use Rattle.plan.specs.Given.{isText, units}
+use Rattle.given.specs.Given.{isText, units}
 
 -- the length and the units
 unfoldable pub textBytes : List ℕ → List ℕ

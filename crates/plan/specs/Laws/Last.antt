@@ -20,7 +20,7 @@ use Rattle.locate.specs.Laws.Located.{lastOf}
 use Rattle.locate.specs.Laws.Steps.{Here, here, nameRead, nameEnd}
 use Rattle.plan.specs.Edit.{Edit, Plan, edited, atLast}
 use Rattle.plan.specs.Laws.Found.{MakesAs, Does}
-use Rattle.plan.specs.Laws.Makes.{name-ends, name-there, sound-small, replaced-long, at-last, no-last, made-no}
+use Rattle.plan.specs.Laws.Makes.{name-ends, name-there, replaced-long, at-last, no-last, made-no}
 
 pub rules-none : (i : ℕ) → rules i [] ≡ []
 unfolding rules eachWrite
@@ -50,7 +50,7 @@ module _ (p : Product) (n m a : ℕ) (d : List ℕ) (e : Edit) (F : List Rule �
 
   -- whatever the last rule is
   pub on-last : {t : ℕ} (r : Outcome) (d′ : List ℕ) → (m ≡ 0 → ⊥) → t ≡ nameEnd d a
-      → ((rs : List Rule) (h : Here p (take n d) rs (m - 1)) → h .later ≡ [] → n ≤ length d → length rs ≤ 256 → t ≡ startOf rs (m - 1) + 4 + length (string .write (h .r .name)) → a ≡ startOf rs (m - 1) → Does n (F rs (m - 1) (h .r)) d r d′)
+      → ((rs : List Rule) (h : Here p (take n d) rs (m - 1)) → h .later ≡ [] → n ≤ length d → m ≡ length rs → t ≡ startOf rs (m - 1) + 4 + length (string .write (h .r .name)) → a ≡ startOf rs (m - 1) → Does n (F rs (m - 1) (h .r)) d r d′)
       → MakesAs p lastOf n m a e d r d′
   unfolding MakesAs
   on-last {t} r d′ l g f rs o w em ea = go (here p (take n d) rs (m - 1) o (omega arith)) (ap (λ (i : ℕ). i - 1) (sym em))
@@ -59,7 +59,7 @@ module _ (p : Product) (n m a : ℕ) (d : List ℕ) (e : Edit) (F : List Rule �
       go h ek =
           let a′ : a ≡ startOf rs (m - 1) = ea ∙ ap (startOf rs) ek in
           let t′ : t ≡ startOf rs (m - 1) + 4 + length (string .write (h .r .name)) = g ∙ ap (nameEnd d) a′ ∙ name-ends n d h in
-          rw (q rs, ek, at-last rs (m - 1) _ (h .from)) (f rs h (last-rule h (omega arith)) w (sound-small n d o) t′ a′)
+          rw (q rs, ek, at-last rs (m - 1) _ (h .from)) (f rs h (last-rule h (omega arith)) w em t′ a′)
 
 -- its name can be read
 pub last-unnamed : (p : Product) (n m a : ℕ) (d : List ℕ) (e : Edit) (r : Outcome) (d′ : List ℕ) {t : Read} {c : Fault} {q : ℕ} → (m ≡ 0 → ⊥) → t ≡ nameRead d a → t ≡ Read.No c q → MakesAs p lastOf n m a e d r d′

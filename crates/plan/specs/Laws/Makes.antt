@@ -6,7 +6,7 @@ use mathlib.Core.Bool.{true, false}
 use mathlib.Core.List.{List, [], _∷_, _++_, append-assoc}
 use lib.ListN.{length, take, drop, length-append, take-append-drop, drop-of-length-le}
 use lib.Seq.{drop-at, length-take-le}
-use borrow.Author.Tests.{le-leb, lt-leb, lt-ltb, le-ltb}
+use borrow.Author.Tests.{lt-ltb, le-ltb}
 use Rattle.format.specs.declared.Fault.{Fault}
 use Rattle.format.specs.declared.Fault.the-variants as Fault
 use Rattle.format.specs.declared.Outcome.{Outcome}
@@ -24,10 +24,12 @@ use Rattle.deck.specs.Written.{written, startOf}
 use Rattle.deck.specs.Laws.Written.{written-is, before, rules, rules-cons}
 use Rattle.deck.specs.Laws.Deck.{deck-small}
 use Rattle.buffer.specs.Laid.{laid}
+use Rattle.room.specs.Room.{roomFor}
+use Rattle.room.specs.Laws.Room.{room-is, roomy}
 use Rattle.buffer.specs.Laws.Holds.{Holds}
 use Rattle.locate.specs.Laws.Steps.{Sound, Here, here, nameRead, nameEnd, name-end, name-never}
-use Rattle.plan.specs.Given.{isText}
-use Rattle.plan.specs.Edit.{Edit, Plan, become, refuse, refuseGiven, atRule, atLast, ifText, unlessFull, atGiven, room, says, leaves}
+use Rattle.given.specs.Given.{isText}
+use Rattle.plan.specs.Edit.{Edit, Plan, become, refuse, refuseGiven, atRule, atLast, ifText, unlessFull, atGiven, fitted, says, leaves}
 use Rattle.plan.specs.Laws.Found.{Makes, Does}
 
 -- ---- the deck that is found
@@ -126,25 +128,29 @@ module _ (n : ℕ) (d : List ℕ) {q : Plan} where
 
   -- the edited list
   module _ {rs : List Rule} where
-    -- 18, 19, 20
-    pub made-rules : q ≡ become rs → 256 < length rs → Does n q d (Outcome.No Fault.Rules 0) d
-    unfolding says leaves room pick
-    made-rules e l = rw (e, lt-leb (length rs) 256 l) (refl, refl)
-
-    pub made-large : q ≡ become rs → length rs ≤ 256 → 60000 < length (written rs) → Does n q d (Outcome.No Fault.Large 0) d
-    unfolding says leaves room pick
-    made-large e l m = rw (e, le-leb (length rs) 256 l, lt-leb (length (written rs)) 60000 m) (refl, refl)
-
-    pub made-room : q ≡ become rs → length rs ≤ 256 → length (written rs) ≤ 60000 → length d < length (written rs) → Does n q d (Outcome.No Fault.Room 0) d
-    unfolding says leaves room pick
-    made-room e l m r = rw (e, le-leb (length rs) 256 l, le-leb (length (written rs)) 60000 m, lt-leb (length (written rs)) (length d) r) (refl, refl)
+    -- 18, 19, 20: o is what was judged of it
+    pub made-out : {o : Outcome} {m len : ℕ} → q ≡ become rs → o ≡ roomFor m len (length d) → ((v : ℕ) → o ≡ Outcome.Done v → ⊥) → m ≡ length rs → len ≡ length (written rs) → Does n q d o d
+    unfolding says leaves
+    made-out {o} e f h em el = rw (e, ← em, ← el, ← f) (go o h)
+      where
+        go : (o : Outcome) → ((v : ℕ) → o ≡ Outcome.Done v → ⊥) → (o ≡ says (fitted o rs)) × (d ≡ leaves n d (fitted o rs))
+        go (Outcome.Done v) h = absurd (h v refl)
+        go (Outcome.No c p) h = (refl, refl)
+        go (Outcome.Given c p) h = (refl, refl)
 
     -- done: the buffer y holds the deck of the edited list, len bytes long
     pub made-is : {y Y : List ℕ} {hi len : ℕ} → Holds y Y hi d → q ≡ become rs → Y ≡ written rs → length Y ≡ len → hi ≡ max n len → length rs ≤ 256 → len ≤ 60000 → Does n q d (Outcome.Done len) y
-    unfolding says leaves room pick
+    unfolding says leaves
     made-is {y} {Y} {hi} {len} h e w s i l m =
         let z : length (written rs) ≡ len = sym (ap length w) ∙ s in
         let v = h .room in
         let g : length (written rs) ≤ length d = omega (arith, h .short) in
-        rw (e, le-leb (length rs) 256 l, le-leb (length (written rs)) 60000 (omega arith), le-leb (length (written rs)) (length d) g)
+        rw (e, ← room-is (length rs) (length (written rs)) (length d) l (omega arith) g)
         (ap Outcome.Done (sym z), h .is ∙ ap₂ (λ (a : List ℕ) (b : ℕ). laid a b d) w (i ∙ ap (max n) (sym z)))
+
+    -- done where there was found to be room
+    pub made-in : {o : Outcome} {y Y : List ℕ} {hi v m len : ℕ} → o ≡ roomFor m len (length d) → o ≡ Outcome.Done v → Holds y Y hi d → q ≡ become rs → Y ≡ written rs → length Y ≡ len → hi ≡ max n len → m ≡ length rs → Does n q d o y
+    made-in {o} {m = m} {len = len} r h y e w s i em =
+        let j = roomy m len (length d) r h in
+        let z : o ≡ Outcome.Done len = r ∙ sym (room-is m len (length d) (j .few) (j .short) (j .inside)) in
+        rw z (made-is y e w s i (omega (arith, j .few)) (j .short))

@@ -35,7 +35,7 @@ use Rattle.plan.specs.Edit.{remove, edited, become}
 use Rattle.plan.specs.Laws.Found.{Makes, Does, found, ground, Ground}
 use Rattle.plan.specs.Laws.Last.{rules-none}
 use Rattle.plan.specs.Laws.Makes.{here-in, name-ends, name-there, sound-small, sound-short, at-rule, no-rule, made-no, made-is}
-use Rattle.parts.specs.Laws.Head.{head-long, head-short}
+use Rattle.head.specs.Laws.Head.{head-long, head-short}
 
 -- ---- a rule that is not the first, or is the only one
 

@@ -23,7 +23,7 @@ use Rattle.kind.specs.Kinds.{kinds, rowIn, rowOf}
 use Rattle.kind.specs.Laws.Kinds.{offered-is}
 use Rattle.element.specs.Data.{words, dataOf, markerData, simpleData, wordData, sizeData, dateData}
 use Rattle.element.specs.Element.{Element, element, identifier, isRow, dataBy}
-use Rattle.plan.specs.Given.{isText, units, given, givenBy, withData}
+use Rattle.given.specs.Given.{isText, units, given, givenBy, withData}
 use Rattle.parts.specs.Laws.Text.{text-units}
 
 -- ---- texts

@@ -8,6 +8,7 @@ use lib.Dec.{leb, ltb}
 use lib.ListN.{length, take, drop, length-append, take-append-drop}
 use borrow.Author.Tests.{leb-true, ltb-true}
 use Rattle.format.specs.declared.Fault.{Fault}
+use Rattle.format.specs.declared.Outcome.{Outcome}
 use Rattle.format.specs.Format.{Answer, got, refused, Format, pick}
 use Rattle.format.specs.ReadWrite.{AllFit}
 use Rattle.format.specs.Laws.ReadWrite.{all-append, all-take, all-drop}
@@ -20,8 +21,10 @@ use Rattle.rule.specs.Rule.{Rule, placed}
 use Rattle.rule.specs.Laws.Rule.{one-placed, fits-placed}
 use Rattle.deck.specs.Laws.Deck.{read-writes-back}
 use Rattle.deck.specs.Written.{written}
-use Rattle.plan.specs.Given.{isText, units}
-use Rattle.plan.specs.Edit.{Edit, switch, rename, remove, insert, addRule, addElement, addWord, Plan, become, refuse, refuseGiven, atRule, atCopy, atSecond, atLast, atList, unlessFull, ifText, atGiven, edited, room, inRoom, switched, renamed, holding, newRule}
+use Rattle.room.specs.Room.{roomFor}
+use Rattle.room.specs.Laws.Room.{Judged, done, many, large, full, room-judged}
+use Rattle.given.specs.Given.{isText, units}
+use Rattle.plan.specs.Edit.{Edit, switch, rename, remove, insert, addRule, addElement, addWord, Plan, become, refuse, refuseGiven, atRule, atCopy, atSecond, atLast, atList, unlessFull, ifText, atGiven, edited, fitted, inRoom, switched, renamed, holding, newRule}
 use Rattle.plan.specs.Handed.{HandedFields, Handed}
 use Rattle.runs.specs.Laws.Fits.{Every, every-append, every-take, every-drop, Fits, fits-deck}
 use Rattle.runs.specs.Laws.Given.{text-fits, word-fits, given-fits, word-more}
@@ -82,13 +85,13 @@ module _ {rs : List Rule} where
 
 -- 18, 19 and 20 were judged
 pub in-room : (cap : ℕ) (q : Plan) {rs : List Rule} → inRoom cap q ≡ become rs → (q ≡ become rs) × ((length rs ≤ 256) × ((length (written rs) ≤ 60000) × (length (written rs) ≤ cap)))
-unfolding room
-in-room cap (become xs) {rs} e =
-    let a = picked (leb (length xs) 256) _ _ _ e in
-    let b = picked (leb (length (written xs)) 60000) _ _ _ (a .1) in
-    let c = picked (leb (length (written xs)) cap) _ _ _ (b .1) in
-    let w : xs ≡ rs = cc (c .1) in
-    rw (← w) (refl, (leb-true (length xs) 256 (a .0), (leb-true (length (written xs)) 60000 (b .0), leb-true (length (written xs)) cap (c .0))))
+in-room cap (become xs) {rs} e = go (roomFor (length xs) (length (written xs)) cap) (room-judged (length xs) (length (written xs)) cap) e
+  where
+    go : (o : Outcome) → Judged (length xs) (length (written xs)) cap o → fitted o xs ≡ become rs → (become xs ≡ become rs) × ((length rs ≤ 256) × ((length (written rs) ≤ 60000) × (length (written rs) ≤ cap)))
+    go o (done w) z = let u : xs ≡ rs = cc in rw (← u) (refl, (w .few, (w .short, w .inside)))
+    go o many z = no-list z
+    go o large z = no-list z
+    go o full z = no-list z
 in-room cap (refuse c q) e = no-list e
 in-room cap (refuseGiven c q) e = not-given e
 

@@ -13,9 +13,10 @@ use Rattle.rule.specs.Rule.{className, classHead, firstHead, head, placed, body
 use Rattle.deck.specs.Deck.{mark, header, deck, readAs}
 use Rattle.deck.specs.Laws.Sample.{ruleA}
 use Rattle.deck.specs.Written.{written}
-use Rattle.plan.specs.Edit.{switch, switched, atRule, edited, room}
+use Rattle.room.specs.Room.{roomFor}
+use Rattle.plan.specs.Edit.{switch, switched, atRule, edited}
 use Rattle.runs.specs.Run.{stepRules, runRules}
 
 pub both-editions : runRules 70 ((1, switch 0 false) ∷ (2, switch 0 false) ∷ (3, switch 0 false) ∷ []) (ruleA ∷ [], 70) ≡ (switched false ruleA ∷ [], 70)
-unfolding runRules stepRules ruleA written edited atRule room mark header deck whole readAs className classHead firstHead head placed body fromUnknown4 fromUnknown2 fields rule identifier element oneZero simpleData editionOf has rowIn offered rowOf extended stringLength string sized measured weighed each eachRead eachWrite counted listed number numberRead within count fixed bytes flag bit value spelt pair pairRead pairWrite seq _then_ judged judgeOf judge via home atStart nothing shift mapped andThen pick
+unfolding runRules stepRules ruleA written edited atRule roomFor mark header deck whole readAs className classHead firstHead head placed body fromUnknown4 fromUnknown2 fields rule identifier element oneZero simpleData editionOf has rowIn offered rowOf extended stringLength string sized measured weighed each eachRead eachWrite counted listed number numberRead within count fixed bytes flag bit value spelt pair pairRead pairWrite seq _then_ judged judgeOf judge via home atStart nothing shift mapped andThen pick
 both-editions = refl

@@ -1,4 +1,4 @@
--- Laws of ../View.antt: how the code finds the name of a rule, and which part a view is.
+-- Laws of ../View.antt: the units of a String that was read, and which part a view is.
 use Prim.Native.Nat.{ℕ, _+_, _-_, _*_, _≤_, _<_}
 use native.Mathlib.Nat.{zero-add}
 use native.Mathlib.Omega.{arith}
@@ -15,16 +15,11 @@ use Rattle.format.specs.declared.Outcome.the-variants as Outcome
 use Rattle.format.specs.declared.Read.{Read}
 use Rattle.format.specs.declared.Read.the-variants as Read
 use Rattle.format.specs.Format.{pick}
-use Rattle.format.specs.Laws.Back.{Where, stands-room}
 use Rattle.text.specs.Text.{stringLength, string}
 use Rattle.text.specs.Laws.Text.{string-length}
-use Rattle.rule.specs.Rule.{rule}
-use Rattle.rule.specs.Laws.Places.{rule-parts}
-use Rattle.locate.specs.Laws.Steps.{Reached, nameRead, name-read}
-use Rattle.view.specs.Laws.Asked.{Tells, finds, finds-never}
 use Rattle.view.specs.declared.View.{View}
 use Rattle.view.specs.declared.View.the-variants.{At, No}
-use Rattle.view.specs.View.{nameAt, shown, shownFrom, PartOf, viewSays}
+use Rattle.view.specs.View.{shown, shownFrom, PartOf, viewSays}
 
 -- a refusal as that of a view
 unfoldable pub noView : Outcome → View
@@ -104,17 +99,6 @@ module _ (len : ℕ) {v : View} where
     pub within-at : a + n ≤ len → within len v ≡ At a n
     unfolding within pick
     within-at l = rw (h, le-leb (a + n) len l)
-
--- r is what was told of the rule's start, t what its name was read as
-module _ (s : List ℕ) (k : ℕ) (v : View) {r : Read} where
-  pub name-unreached : {c : Fault} {q : ℕ} → Reached s k k r → r ≡ Read.No c q → Tells s k nameAt v
-  name-unreached w i p = finds-never p s k nameAt v w i
-
-  pub name-is : {u at : ℕ} {t : Read} → Reached s k k r → r ≡ Read.Got u at → t ≡ nameRead s at → v ≡ unitsOf (length s) t → Tells s k nameAt v
-  unfolding Where
-  name-is {at = at} w i e h p = finds p s k nameAt v w i (λ x b.
-      let y = rule-parts p k s at x (b .0) (b .1) in
-      units-of (length s) (at + 4) (x .name) h (e ∙ name-read s at p k x b) (omega (arith, stands-room (rule p k) s at (b .1), y .ends)))
 
 -- a refusal handed on
 pub view-hands : {o : Outcome} {v : View} {c : Fault} {q : ℕ} → o ≡ Outcome.No c q → v ≡ noView o → v ≡ No c q

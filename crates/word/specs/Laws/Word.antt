@@ -36,14 +36,16 @@ use Rattle.buffer.specs.Laws.Laid.{put-both}
 use Rattle.buffer.specs.Laws.Holds.{Holds, holds-put, holds-behind}
 use Rattle.locate.specs.Laws.Located.{lastOf}
 use Rattle.locate.specs.Laws.Steps.{Here, nameEnd}
-use Rattle.plan.specs.Given.{isText, units}
+use Rattle.given.specs.Given.{isText, units}
 use Rattle.plan.specs.Edit.{Plan, become, addWord, edited, holding, atList, unlessFull, ifText}
 use Rattle.plan.specs.Laws.Found.{MakesAs, Does}
 use Rattle.plan.specs.Laws.Last.{rules-none, among, as-many, on-none, on-last}
-use Rattle.plan.specs.Laws.Makes.{here-in, written-here, if-text, no-text, full, not-full, made-no, made-large, made-room, made-is}
+use Rattle.room.specs.Room.{roomFor}
+use Rattle.room.specs.Laws.Room.{roomy}
+use Rattle.plan.specs.Laws.Makes.{here-in, written-here, if-text, no-text, full, not-full, made-no, made-out, made-in}
 use Rattle.parts.specs.Laws.Text.{textBytes, textSize, text-size, text-is}
 use Rattle.add_element.specs.Laws.Element.{last-is, front-ends, size-ends, inner-more}
-use Rattle.word.specs.Laws.List.{lastList, leading, list-written, EndsInList, ends-in-list, list-none}
+use Rattle.list.specs.Laws.List.{lastList, leading, list-written, EndsInList, ends-in-list, list-none}
 
 -- 4 zero bytes and a String
 unfoldable pub wordBytes : List ℕ → List ℕ
@@ -118,13 +120,13 @@ module _ (k : ℕ) (els : List Element) (e : ℕ) {c t : ℕ} (o : EndsInList k 
 -- ---- the deck with the word
 
 -- whatever sound deck is in the first n bytes, its last rule having a name that ends at e and for last element a list of c words, whose number stands at t: the word is added
-unfoldable pub Lengthens : ℕ → ℕ → ℕ → ℕ → List ℕ → List ℕ → Outcome → List ℕ → Type 0
-Lengthens n e t c s d r d′ =
-    (p : Product) (rs : List Rule) (k : ℕ) (h : Here p (take n d) rs k) (o : EndsInList k e (h .r .elements) c t) → h .later ≡ [] → n ≤ length d → length rs ≤ 256
+unfoldable pub Lengthens : ℕ → ℕ → ℕ → ℕ → ℕ → List ℕ → List ℕ → Outcome → List ℕ → Type 0
+Lengthens n m e t c s d r d′ =
+    (p : Product) (rs : List Rule) (k : ℕ) (h : Here p (take n d) rs k) (o : EndsInList k e (h .r .elements) c t) → h .later ≡ [] → n ≤ length d → m ≡ length rs
     → e ≡ startOf rs k + 4 + length (string .write (h .r .name)) → textBytes s ≡ string .write (units s)
     → Does n (become (take k rs ++ (holding (take (length (h .r .elements) - 1) (h .r .elements) ++ ((o .id, words (o .ws ++ (units s ∷ []))) ∷ [])) (h .r) ∷ []))) d r d′
 
-module _ (n e t c : ℕ) (s d : List ℕ) where
+module _ (n m e t c : ℕ) (s d : List ℕ) where
   module _ {p : Product} {rs : List Rule} {k : ℕ} (h : Here p (take n d) rs k) (o : EndsInList k e (h .r .elements) c t) (z : h .later ≡ []) (w : n ≤ length d) (g : e ≡ startOf rs k + 4 + length (string .write (h .r .name))) (l : 0 < length (h .r .elements)) where
     -- its bytes, Data Size and the number of words being S and C
     abbrev bytesWith : ℕ → ℕ → List ℕ
@@ -169,31 +171,28 @@ module _ (n e t c : ℕ) (s d : List ℕ) where
   some {p} {rs} {k} h = omega (arith, rule-fits p k (h .r) (h .fits) .0)
 
   -- never, of a sound deck
-  pub lengthen-short : (size : ℕ) (r : Outcome) (d′ : List ℕ) → n + 4 + size < e + 24 → Lengthens n e t c s d r d′
+  pub lengthen-short : (size : ℕ) (r : Outcome) (d′ : List ℕ) → n + 4 + size < e + 24 → Lengthens n m e t c s d r d′
   unfolding Lengthens
   lengthen-short size r d′ u p rs k h o z w m g b = absurd (omega (arith, size-ends n d h z w g))
 
-  -- size is what a String of the word takes
-  module _ {size : ℕ} where
-    pub lengthen-large : isText s ≡ true → size ≡ textSize s → 60000 < n + 4 + size → Lengthens n e t c s d (Outcome.No Fault.Large 0) d
+  -- size is what a String of the word takes; r is what 18, 19 and 20 were judged as
+  module _ {size : ℕ} {r : Outcome} where
+    pub lengthen-out : isText s ≡ true → size ≡ textSize s → r ≡ roomFor m (n + 4 + size) (length d) → ((v : ℕ) → r ≡ Outcome.Done v → ⊥) → Lengthens n m e t c s d r d
     unfolding Lengthens
-    lengthen-large it es u p rs k h o z w m g b =
-        made-large n d refl (rw (as-many h _ z) m) (rw (longer-written h o z w g (some h) b) (omega (arith, bytes-long h o z w g (some h) (n + 4 + length (textBytes s) - (e + 24)) (c + 1), text-size s it)))
-
-    pub lengthen-room : isText s ≡ true → size ≡ textSize s → n + 4 + size ≤ 60000 → length d < n + 4 + size → Lengthens n e t c s d (Outcome.No Fault.Room 0) d
-    unfolding Lengthens
-    lengthen-room it es u v p rs k h o z w m g b =
+    lengthen-out it es j i p rs k h o z w f g b =
         let l = bytes-long h o z w g (some h) (n + 4 + length (textBytes s) - (e + 24)) (c + 1) in
-        made-room n d refl (rw (as-many h _ z) m) (rw (longer-written h o z w g (some h) b) (omega (arith, l, text-size s it))) (rw (longer-written h o z w g (some h) b) (omega (arith, l, text-size s it)))
+        let u : n + 4 + size ≡ n + 4 + length (textBytes s) = ap (λ (k : ℕ). n + 4 + k) (es ∙ text-size s it) in
+        made-out n d refl j i (f ∙ sym (as-many h _ z)) (u ∙ sym (ap length (longer-written h o z w g (some h) b) ∙ l))
 
-    pub lengthen-done : {y₁ y₂ y₃ y₄ : List ℕ} → isText s ≡ true → size ≡ textSize s → n + 4 + size ≤ 60000 → n + 4 + size ≤ length d → y₁ ≡ putIn d n (spelt 4 0) → y₂ ≡ putIn y₁ (n + 4) (textBytes s) → y₃ ≡ putIn y₂ (e + 20) (spelt 4 (n + 4 + size - (e + 24))) → y₄ ≡ putIn y₃ t (spelt 4 (c + 1))
-        → Lengthens n e t c s d (Outcome.Done (n + 4 + size)) y₄
+    pub lengthen-done : {y₁ y₂ y₃ y₄ : List ℕ} {v : ℕ} → isText s ≡ true → size ≡ textSize s → r ≡ roomFor m (n + 4 + size) (length d) → r ≡ Outcome.Done v → y₁ ≡ putIn d n (spelt 4 0) → y₂ ≡ putIn y₁ (n + 4) (textBytes s) → y₃ ≡ putIn y₂ (e + 20) (spelt 4 (n + 4 + size - (e + 24))) → y₄ ≡ putIn y₃ t (spelt 4 (c + 1))
+        → Lengthens n m e t c s d r y₄
     unfolding Lengthens
-    lengthen-done {y₃ = y₃} it es u v e₁ e₂ e₃ e₄ p rs k h o z w m g b =
+    lengthen-done {y₃ = y₃} it es j i e₁ e₂ e₃ e₄ p rs k h o z w f g b =
         let l = bytes-long h o z w g (some h) (n + 4 + length (textBytes s) - (e + 24)) (c + 1) in
         let ts = es ∙ text-size s it in
-        made-is n d (longer-holds h o z w g (some h) (n + 4 + length (textBytes s) - (e + 24)) (c + 1) (omega arith) e₁ e₂ (rw ts at e₃) e₄) refl (sym (longer-written h o z w g (some h) b))
-        (omega arith) (omega (arith, word-long s)) (rw (as-many h _ z) m) u
+        let u = roomy m (n + 4 + size) (length d) j i .inside in
+        made-in n d j i (longer-holds h o z w g (some h) (n + 4 + length (textBytes s) - (e + 24)) (c + 1) (omega arith) e₁ e₂ (rw ts at e₃) e₄) refl (sym (longer-written h o z w g (some h) b))
+        (omega arith) (omega (arith, word-long s)) (f ∙ sym (as-many h _ z))
 
 -- ---- what is judged before
 
@@ -233,7 +232,7 @@ module _ (p : Product) (n m a : ℕ) (s d : List ℕ) where
       unfolding edited
       word-text f b = on-last p n m a d (addWord s) (withWord s) (λ rs. refl) _ _ l g (λ rs h z w v e′ a′. let o = is-listed h e′ a′ in made-no n d (at-words o _ ∙ not-full _ _ (rw (o .many) at f) ∙ no-text s _ b))
 
-      pub word-done : (r : Outcome) (d′ : List ℕ) → c < 64 → Bytes s → isText s ≡ true → Lengthens n e t c s d r d′ → MakesAs p lastOf n m a (addWord s) d r d′
+      pub word-done : (r : Outcome) (d′ : List ℕ) → c < 64 → Bytes s → isText s ≡ true → Lengthens n m e t c s d r d′ → MakesAs p lastOf n m a (addWord s) d r d′
       unfolding Lengthens edited
       word-done r d′ f bs b x = on-last p n m a d (addWord s) (withWord s) (λ rs. refl) r d′ l g (λ rs h z w v e′ a′.
           let o = is-listed h e′ a′ in

@@ -1,6 +1,6 @@
 use native.Mathlib.Omega.{arith}
 use Rattle.word_view.specs.Word.{wordView}
-use Rattle.view.specs.Laws.Asked.{by-product, asked-none, asked-refused, asked-absent, asked-is}
+use Rattle.asked.specs.Laws.Asked.{by-product, asked-none, asked-refused, asked-absent, asked-is}
 use Rattle.format.specs.Laws.Format.{bytes-all}
 use Rattle.view.specs.Laws.View.{view-hands, no-inside}
 use mathlib.Core.Path.{ap, _∙_}

@@ -1,5 +1,5 @@
 use Rattle.view.specs.Laws.View.{no-inside}
-use Rattle.view.specs.Laws.Asked.{finds, finds-never}
+use Rattle.asked.specs.Laws.Asked.{finds, finds-never}
 use borrow.Author.Needs.{needs}
 use Rattle.word_view.proofs.word_of.Statement.{statement}
 use Rattle.word_view.proofs.word_of.Tie as tie

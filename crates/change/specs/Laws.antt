@@ -1,2 +1,0 @@
-pub mod Switch
-pub mod Rename

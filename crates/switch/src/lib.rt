@@ -1,0 +1,34 @@
+// A rule switched on or off where it stands.
+use format::Fault;
+use format::Outcome;
+use format::Read;
+use locate::Spot;
+ghost use Prim.Native.Nat.{ℕ};
+ghost use Rattle.plan.specs.Edit.{switch, Edits};
+ghost use Rattle.plan.specs.Laws.Found.{Makes};
+
+// Rule k of m, which stands from a to b.
+fn switch_at(buf: &mut [u8], n: usize, k: u64, m: u64, a: usize, b: usize, on: bool) -> Outcome
+    ensures { λ r. ⌜ ((edition : ℕ) → Makes edition (λ rs. k) n m a b (switch k on) (now (buf .entry)) r (now (buf .exit))) ⌝ }
+{
+    if m <= k {
+        return Outcome::No(Fault::Absent, 0);
+    }
+    let t = locate::name_end(buf, a);
+    let Read::Got(_, e) = t else {
+        return format::end_says(t);
+    };
+    buffer::put_flag(buf, e, on);
+    Outcome::Done(n)
+}
+
+// Rule k is switched on or off.
+pub fn switch(edition: u64, buf: &mut [u8], n: usize, k: u64, on: bool) -> Outcome
+    ensures { λ r. ⌜ Edits edition n (switch k on) (now (buf .entry)) r (now (buf .exit)) ⌝ }
+{
+    let f = plan::find(edition, buf, n, k);
+    let Spot::Is(m, a, b) = f else {
+        return locate::spot_says(f);
+    };
+    switch_at(buf, n, k, m, a, b, on)
+}
