@@ -10,21 +10,8 @@ ghost use Rattle.buffer.specs.Laid.{putIn};
 ghost use Rattle.plan.specs.Edit.{insert, Edits};
 ghost use Rattle.plan.specs.Laws.Found.{Makes, Within};
 ghost use Rattle.insert.specs.Laws.Copy.{copied, copySize};
-ghost use Rattle.insert.specs.Laws.Place.{lost, Opens};
+ghost use Rattle.place.specs.Laws.Place.{lost};
 ghost use Rattle.insert.specs.Laws.Insert.{Sizes, Copied, Inserts, Copies, Copyable};
-
-// How many bytes the rules from place k of m lose where a rule comes before them: the old first rule gives its long head up.
-fn lost_at(k: u64, m: u64) -> usize
-    ensures { λ r. ⌜ (r ≡ lost k m) × (r ≤ 16) ⌝ }
-{
-    if k != 0 {
-        return 0;
-    }
-    if m == 0 {
-        return 0;
-    }
-    16
-}
 
 // A rule at a place of the buffer, with the head of place i: what stands before Data Size, the number of its elements and the elements are given.
 fn put_rule(buf: &mut [u8], at: usize, front: &[u8], count: &[u8], els: &[u8], i: u64)
@@ -39,40 +26,6 @@ fn put_rule(buf: &mut [u8], at: usize, front: &[u8], count: &[u8], els: &[u8], i
     buffer::put_bytes(buf, size + 4, count);
     head::put_head(buf, head, i);
     buffer::put_bytes(buf, head + long, els);
-}
-
-// The rule at place 0, which ends at b, gives its long head up, and a gap of len bytes opens before it.
-fn open_first(buf: &mut [u8], n: usize, m: u64, b: usize, len: usize)
-    requires { ⌜ (0 < m) × (b ≤ n) × (n ≤ 60000) × (len ≤ 200000) ⌝ }
-    ensures { λ _. ⌜ Opens n 0 m 7 b len (now (buf .entry)) (now (buf .exit)) ⌝ }
-{
-    let t = locate::name_end(buf, 7);
-    let Read::Got(_, e) = t else {
-        return;
-    };
-    if b < e {
-        return;
-    }
-    if b - e < 44 {
-        return;
-    }
-    let head = e + 26;
-    gap::open(buf, n, head, head + 18, len + 2);
-    gap::move_up(buf, 7, head + len, len);
-    buffer::put_number(buf, e + 20 + len, 4, (b - e - 40) as u64);
-    head::put_head(buf, head + len, 1);
-}
-
-// A gap of len bytes opens at place k of m, which starts at a, for a rule; what stands behind it becomes what it is behind a rule.
-fn open_place(buf: &mut [u8], n: usize, k: u64, m: u64, a: usize, b: usize, len: usize)
-    requires { ⌜ (b ≤ n) × (n ≤ 60000) × (len ≤ 200000) ⌝ }
-    ensures { λ _. ⌜ Opens n k m a b len (now (buf .entry)) (now (buf .exit)) ⌝ }
-{
-    if lost_at(k, m) == 0 {
-        gap::open(buf, n, a, a, len);
-        return;
-    }
-    open_first(buf, n, m, b, len);
 }
 
 // The rule of these parts at place k of m, which starts at a; the buffer has room for it.
@@ -91,7 +44,7 @@ fn put_copy(
     requires { ⌜ Sizes n k m a b (now buf) (now front) (now count) (now els) × (len ≡ copySize (now front) (now els) k) × (len ≤ 200000) × (n + (len - lost k m) ≤ length (now buf)) ⌝ }
     ensures { λ _. ⌜ Copied n k m a b (now (front .entry)) (now (count .entry)) (now (els .entry)) (now (buf .entry)) (now (buf .exit)) ⌝ }
 {
-    open_place(buf, n, k, m, a, b, len);
+    place::open_place(buf, n, k, m, a, b, len);
     put_rule(buf, a, front, count, els, k);
     buffer::put_number(buf, 5, 2, m + 1);
 }
@@ -112,7 +65,7 @@ fn copy_rule(
     ensures { λ r. ⌜ Inserts n k m a b (now (front .entry)) (now (count .entry)) (now (els .entry)) (now (buf .entry)) r (now (buf .exit)) ⌝ }
 {
     let len = front.len() + 6 + head::head_size(k) + els.len();
-    let new = n + (len - lost_at(k, m));
+    let new = n + (len - place::lost_at(k, m));
     let o = room::room_for(m + 1, new, buf.len());
     let Outcome::Done(_) = o else {
         return o;

@@ -40,7 +40,7 @@ use Rattle.plan.specs.Edit.{Plan, become, refuse, refuseGiven, atCopy, atSecond
 use Rattle.plan.specs.Laws.Found.{Makes, Does, Within, found, ground, found-within}
 use Rattle.plan.specs.Laws.Makes.{made-no, made-given, made-out, made-in}
 use Rattle.insert.specs.Laws.Copy.{copied, copySize, copied-is, copied-long}
-use Rattle.insert.specs.Laws.Place.{lost, lost-small, lost-later, Opens, rules-lose, parts-at}
+use Rattle.place.specs.Laws.Place.{lost, lost-small, lost-later, Opens, rules-lose, parts-at}
 
 -- the bounds of a deck, of a place of it, and of the parts of a rule: f stands before Data Size, c is the number of its elements, l the elements
 pub record Sizes (n k m a b : ℕ) (d f c l : List ℕ) : Type 0 where
@@ -125,10 +125,10 @@ counted-holds m o xs T h e =
     rw j at (holds-put opening (spelt 2 m) (rules 0 xs ++ T) (spelt 2 o) h i opening-long (length-spelt 2 m ∙ sym (length-spelt 2 o)) e)
 
 module _ (n k m a b : ℕ) (f c l d : List ℕ) where
-  pub copied-holds : (len : ℕ) (z₁ : List ℕ) {z₂ z₃ : List ℕ} → Opens n k m a b len d z₁ → z₂ ≡ putIn z₁ a (copied f c l k) → z₃ ≡ putIn z₂ 5 (spelt 2 (m + 1)) → length c ≡ 2 → len ≡ copySize f l k → 16 ≤ length f → k ≤ m → n + (len - lost k m) ≤ length d
+  pub copied-holds : (len : ℕ) (z₁ : List ℕ) {z₂ z₃ : List ℕ} → Opens n k m a b len d z₁ → z₂ ≡ putIn z₁ a (copied f c l k) → z₃ ≡ putIn z₂ 5 (spelt 2 (m + 1)) → length c ≡ 2 → len ≡ copySize f l k → len ≤ 200000 → 16 ≤ length f → k ≤ m → n + (len - lost k m) ≤ length d
       → Copied n k m a b f c l d z₃
   unfolding Copied Whatever Opens startOf startIn rules
-  copied-holds len z₁ {z₂} {z₃} O e₂ e₃ lc el lf lk r p rs q o w em ea eb ef ec ez = go (O p rs o w em lk ea eb (omega arith) r)
+  copied-holds len z₁ {z₂} {z₃} O e₂ e₃ lc el lx lf lk r p rs q o w em ea eb ef ec ez = go (O p rs o w em lk ea eb (omega arith) lx r)
     where
       go : Gap z₁ (λ G. before m (take k rs) ++ (G ++ rules (k + 1) (drop k rs))) len (n + (len - lost k m)) d → Holds z₃ (written (with k rs q)) (n + (copySize f l k - lost k m)) d
       go g =

@@ -1,9 +1,9 @@
 use native.Mathlib.Omega.{arith}
-use Rattle.insert.specs.Laws.Place.{opens-unnamed, opens-not, opens-shift}
+use Rattle.place.specs.Laws.Place.{opens-unnamed, opens-not, opens-shift}
 use Rattle.locate.specs.Laws.Steps.{name-got}
 use borrow.Author.Needs.{needs}
-use Rattle.insert.proofs.open_first.Statement.{statement}
-use Rattle.insert.proofs.open_first.Tie as tie
+use Rattle.place.proofs.open_first.Statement.{statement}
+use Rattle.place.proofs.open_first.Tie as tie
 
 returns : tie.Need-returns
 returns c = opens-unnamed _ _ _ _ _ (c .before .before .name-end .ensures) (c .enum-told .given .1) (c .before .before .before .before .before .pre .0)

@@ -25,7 +25,7 @@ use Rattle.deck.specs.Written.{startOf}
 use Rattle.buffer.specs.Laid.{putIn}
 use Rattle.buffer.specs.Laws.Laid.{opened, moved, up}
 use Rattle.buffer.specs.Laws.Holds.{Holds, Gap, holds-start, holds-put, holds-open, holds-up}
-use Rattle.locate.specs.Laws.Steps.{Sound, Here, here, nameRead, nameEnd}
+use Rattle.locate.specs.Laws.Steps.{Sound, Here, here, nameRead, nameEnd, start-within}
 use Rattle.plan.specs.Laws.Makes.{name-ends, name-there}
 use Rattle.head.specs.Laws.Head.{head-long, head-short}
 
@@ -66,9 +66,9 @@ module _ (k m : ℕ) where
       ]
 
 -- whatever m rules the sound deck in the first n bytes has, place k starting at a and its rule ending at b:
--- there is a gap of len bytes at place k, and the rules behind it stand as behind a rule
+-- there is a gap of len bytes, at most 200,000, at place k, and the rules behind it stand as behind a rule
 unfoldable pub Opens : ℕ → ℕ → ℕ → ℕ → ℕ → ℕ → List ℕ → List ℕ → Type 0
-Opens n k m a b len d z = (p : Product) (rs : List Rule) → Sound p (take n d) rs → n ≤ length d → m ≡ length rs → k ≤ m → a ≡ startOf rs k → b ≡ startOf rs (k + 1) → 16 ≤ len → n + (len - lost k m) ≤ length d
+Opens n k m a b len d z = (p : Product) (rs : List Rule) → Sound p (take n d) rs → n ≤ length d → m ≡ length rs → k ≤ m → a ≡ startOf rs k → b ≡ startOf rs (k + 1) → 16 ≤ len → len ≤ 200000 → n + (len - lost k m) ≤ length d
     → Gap z (λ G. before m (take k rs) ++ (G ++ rules (k + 1) (drop k rs))) len (n + (len - lost k m)) d
 
 -- the rules behind a place, as behind a rule
@@ -114,7 +114,7 @@ module _ (n k m a b len : ℕ) (d z : List ℕ) where
   -- nothing else is done where no rule behind it changes
   pub opens-plain : lost k m ≡ 0 → z ≡ opened d n a a len → Opens n k m a b len d z
   unfolding Opens startOf startIn rules
-  opens-plain e g p rs o w em l ea eb h r =
+  opens-plain e g p rs o w em l ea eb h x r =
       let P = before m (take k rs) in
       let i : take n d ≡ P ++ rules (k + 1) (drop k rs) = rw (← em, rules-kept k rs (rw em at e)) at (parts-at p (take n d) rs k o (omega arith)) in
       let hi : max n (n - (a - a) + len) ≡ n + (len - lost k m) = omega arith in
@@ -122,7 +122,12 @@ module _ (n k m a b len : ℕ) (d z : List ℕ) where
 
   pub opens-first : (lost k m ≡ 0 → ⊥) → Opens n 0 m 7 b len d z → Opens n k m a b len d z
   unfolding Opens startOf startIn rules eachWrite
-  opens-first e f p rs o w em l ea eb h r = let u = lost-is k m e .0 in rw u (f p rs o w em (omega arith) refl (rw u at eb) h (rw u at r))
+  opens-first e f p rs o w em l ea eb h x r = let u = lost-is k m e .0 in rw u (f p rs o w em (omega arith) refl (rw u at eb) h x (rw u at r))
+
+-- of no sound deck, or for a longer gap
+pub opens-never : (n k m a b len : ℕ) (d : List ℕ) → (b ≤ n → n ≤ 60000 → len ≤ 200000 → ⊥) → Opens n k m a b len d d
+unfolding Opens
+opens-never n k m a b len d h p rs o w em l ea eb g x r = absurd (h (omega (arith, start-within p (take n d) rs k o, length-take-le n d w)) (omega (arith, o .short, length-take-le n d w)) x)
 
 -- the first rule up to its head moves up, and gets another head and another Data Size
 four : (B M X Y I : List ℕ) → (B ++ M) ++ ((X ++ Y) ++ I) ≡ B ++ (M ++ (X ++ (Y ++ I)))
@@ -198,17 +203,17 @@ module _ (n : ℕ) (d : List ℕ) {p : Product} {rs : List Rule} (h : Here p (ta
 -- its name can be read
 pub opens-unnamed : (n m b len : ℕ) (d : List ℕ) {t : Read} {c : Fault} {q : ℕ} → t ≡ nameRead d 7 → t ≡ Read.No c q → 0 < m → Opens n 0 m 7 b len d d
 unfolding Opens startOf startIn rules eachWrite
-opens-unnamed n m b len d f g l p rs o w em k ea eb h r = name-there n d (here p (take n d) rs 0 o (omega arith)) f g
+opens-unnamed n m b len d f g l p rs o w em k ea eb h x r = name-there n d (here p (take n d) rs 0 o (omega arith)) f g
 
 module _ (n m b len : ℕ) (d : List ℕ) (e : ℕ) where
   pub opens-not : e ≡ nameEnd d 7 → 0 < m → b < e + 44 → Opens n 0 m 7 b len d d
   unfolding Opens
-  opens-not g q l p rs o w em k ea eb h r = absurd (omega (arith, ends-at n d (here p (take n d) rs 0 o (omega arith)), eb))
+  opens-not g q l p rs o w em k ea eb h x r = absurd (omega (arith, ends-at n d (here p (take n d) rs 0 o (omega arith)), eb))
 
   pub opens-shift : {z₁ z₂ z₃ z₄ : List ℕ} {a₁ b₁ e₂ a₃ a₄ t : ℕ} → e ≡ nameEnd d 7 → 0 < m → z₁ ≡ opened d n a₁ b₁ (len + 2) → z₂ ≡ moved (up len) 7 e₂ z₁ → z₃ ≡ putIn z₂ a₃ (spelt 4 t) → z₄ ≡ putIn z₃ a₄ (headBytes 1)
       → a₁ ≡ e + 26 → b₁ ≡ e + 44 → e₂ ≡ e + 26 + len → a₃ ≡ e + 20 + len → a₄ ≡ e + 26 + len → t ≡ b - e - 40 → Opens n 0 m 7 b len d z₄
   unfolding Opens sizeOf startOf startIn rules eachWrite
-  opens-shift {z₄ = z₄} {t = t} g q e₁ m₂ e₃ e₄ f₁ g₁ f₂ f₃ f₄ et p rs o w em k ea eb h r = go (here p (take n d) rs 0 o (omega arith))
+  opens-shift {z₄ = z₄} {t = t} g q e₁ m₂ e₃ e₄ f₁ g₁ f₂ f₃ f₄ et p rs o w em k ea eb h u r = go (here p (take n d) rs 0 o (omega arith))
     where
       go : Here p (take n d) rs 0 → Gap z₄ (λ G. before m (take 0 rs) ++ (G ++ rules (0 + 1) (drop 0 rs))) len (n + (len - lost 0 m)) d
       go y =

@@ -1,7 +1,7 @@
 use native.Mathlib.Omega.{arith}
-use Rattle.insert.specs.Laws.Place.{lost-later, lost-none, lost-first}
-use Rattle.insert.proofs.lost_at.Statement.{statement}
-use Rattle.insert.proofs.lost_at.Tie as tie
+use Rattle.place.specs.Laws.Place.{lost-later, lost-none, lost-first}
+use Rattle.place.proofs.lost_at.Statement.{statement}
+use Rattle.place.proofs.lost_at.Tie as tie
 
 returns : tie.Need-returns
 returns c = (lost-later _ _ (c .if1 .taken), omega arith)
