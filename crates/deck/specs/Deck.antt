@@ -16,8 +16,8 @@ use Rattle.kind.specs.declared.Edition.{Edition}
 use Rattle.kind.specs.declared.Edition.the-variants as Edition
 use Rattle.kind.specs.Kinds.{editionOf}
 use Rattle.rule.specs.Rule.{Rule, rule, elementsIn}
-use Rattle.deck.specs.declared.Scan.{Scan}
-use Rattle.deck.specs.declared.Scan.the-variants as Scan
+use Rattle.scan.specs.declared.Scan.{Scan}
+use Rattle.scan.specs.declared.Scan.the-variants as Scan
 
 -- mark `RDK`
 unfoldable pub mark : List ℕ
@@ -56,8 +56,3 @@ answered (refused c p) = No c p
 abbrev pub scanned : Answer (List Rule) → Scan
 scanned (got rs n) = Scan.Is (length rs) (total elementsIn rs)
 scanned (refused c p) = Scan.No c p
-
--- the answer as document 01 has it
-abbrev pub scanSays : Scan → Outcome
-scanSays (Scan.Is n e) = Done n
-scanSays (Scan.No c p) = No c p

@@ -4,20 +4,15 @@ use format::Outcome;
 use format::Read;
 use kind::Edition;
 use kind::Product;
+use scan::Scan;
 ghost use mathlib.Core.Path.{_≡_};
 ghost use Prim.Native.Nat.{_≤_};
 ghost use Rattle.format.specs.Combinators.{each};
 ghost use Rattle.format.specs.Row.{total};
 ghost use Rattle.format.specs.Laws.Seen.{seen, itself};
 ghost use Rattle.rule.specs.Rule.{rule, elementsIn};
-ghost use Rattle.deck.specs.Deck.{header, readAs, readDeck, scanned, scanSays, answered};
-ghost use Rattle.deck.specs.Laws.Deck.{noScan};
-
-// What a pass over a deck tells: the number of rules and that of their elements; or a fault with its place.
-pub enum Scan {
-    Is(u64, u64),
-    No(Fault, usize),
-}
+ghost use Rattle.scan.specs.Scan.{scanSays};
+ghost use Rattle.deck.specs.Deck.{header, readAs, readDeck, scanned, answered};
 
 // Mark and version; the value is the number of rules.
 fn header_at(s: &[u8]) -> Read
@@ -54,27 +49,6 @@ fn rules_at(s: &[u8], at: usize, product: Product, n: u64) -> Read
     Read::Got(t, p)
 }
 
-// What a pass says: the number of rules, or a refusal.
-pub fn scan_says(c: Scan) -> Outcome
-    ensures { λ r. ⌜ r ≡ scanSays c ⌝ }
-{
-    match c {
-        Scan::Is(n, _) => Outcome::Done(n as usize),
-        Scan::No(d, p) => Outcome::No(d, p),
-    }
-}
-
-// A refusal as that of a pass.
-fn no_scan(o: Outcome) -> Scan
-    ensures { λ r. ⌜ r ≡ noScan o ⌝ }
-{
-    match o {
-        Outcome::Done(_) => Scan::Is(0, 0),
-        Outcome::No(c, p) => Scan::No(c, p),
-        Outcome::Given(c, p) => Scan::No(c, p),
-    }
-}
-
 // A pass over a deck by a product: 2 first, 13 last.
 fn pass_as(product: Product, s: &[u8]) -> Scan
     ensures { λ r. ⌜ r ≡ scanned (readAs product (now (s .entry))) ⌝ }
@@ -84,11 +58,11 @@ fn pass_as(product: Product, s: &[u8]) -> Scan
     }
     let h = header_at(s);
     let Read::Got(n, p) = h else {
-        return no_scan(format::end_says(h));
+        return scan::no_scan(format::end_says(h));
     };
     let r = rules_at(s, p, product, n);
     let Read::Got(t, q) = r else {
-        return no_scan(format::end_says(r));
+        return scan::no_scan(format::end_says(r));
     };
     if q != s.len() {
         return Scan::No(Fault::Over, q);
@@ -111,5 +85,5 @@ pub fn pass(edition: u64, s: &[u8]) -> Scan
 pub fn check(edition: u64, s: &[u8]) -> Outcome
     ensures { λ r. ⌜ r ≡ answered (readDeck edition (now (s .entry))) ⌝ }
 {
-    scan_says(pass(edition, s))
+    scan::scan_says(pass(edition, s))
 }

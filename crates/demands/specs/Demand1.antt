@@ -27,7 +27,8 @@ use Rattle.value.specs.declared.Value.{Value}
 use Rattle.value.specs.Value.{valueAnswer}
 use Rattle.put.specs.Plan.{write, deny, putting, putSays, Putting, putLeaves}
 use Rattle.rule.specs.Rule.{Rule}
-use Rattle.deck.specs.Deck.{readAs, readDeck, answered, scanned, scanSays}
+use Rattle.scan.specs.Scan.{scanSays}
+use Rattle.deck.specs.Deck.{readAs, readDeck, answered, scanned}
 use Rattle.tables.specs.Tables.{tabled, readSays, rulesLeft, rulesAfter, elementsLeft, elementsAfter}
 use Rattle.view.specs.View.{viewSays}
 use Rattle.name_view.specs.Name.{nameView}

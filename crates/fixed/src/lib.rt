@@ -1,9 +1,9 @@
 // The fixed fields of a rule of a deck.
-use deck::Scan;
 use format::Fault;
 use format::Outcome;
 use format::Read;
 use rule::Fields;
+use scan::Scan;
 ghost use mathlib.Core.Path.{_≡_};
 ghost use Rattle.asked.specs.Laws.Asked.{Tells};
 ghost use Rattle.fixed.specs.Laws.Fixed.{Kept, noFields};
@@ -85,7 +85,7 @@ pub fn fixed(edition: u64, s: &[u8], k: u64) -> Fielded
 {
     let c = deck::pass(edition, s);
     let Scan::Is(n, _) = c else {
-        return no_fields(deck::scan_says(c));
+        return no_fields(scan::scan_says(c));
     };
     if n <= k {
         return Fielded::No(Fault::Absent, 0);

@@ -1,8 +1,8 @@
 // Where a rule of a deck stands: the deck is judged by one pass, and the rules before it are stepped over by their Data Size.
-use deck::Scan;
 use format::Fault;
 use format::Outcome;
 use format::Read;
+use scan::Scan;
 ghost use mathlib.Core.Path.{_≡_};
 ghost use Rattle.deck.specs.Deck.{readDeck};
 ghost use Rattle.locate.specs.Laws.Located.{located, lastOf, spotSays, noSpot};
@@ -107,7 +107,7 @@ pub fn locate(edition: u64, s: &[u8], k: u64) -> Spot
 {
     let c = deck::pass(edition, s);
     let Scan::Is(n, _) = c else {
-        return no_spot(deck::scan_says(c));
+        return no_spot(scan::scan_says(c));
     };
     spot_of(s, n, k)
 }
@@ -118,7 +118,7 @@ pub fn last(edition: u64, s: &[u8]) -> Spot
 {
     let c = deck::pass(edition, s);
     let Scan::Is(n, _) = c else {
-        return no_spot(deck::scan_says(c));
+        return no_spot(scan::scan_says(c));
     };
     if n == 0 {
         return spot_of(s, 0, 0);

@@ -1,8 +1,8 @@
 // The name of a rule as a part of the deck's bytes.
-use deck::Scan;
 use format::Fault;
 use format::Outcome;
 use format::Read;
+use scan::Scan;
 use view::View;
 ghost use mathlib.Core.Path.{_≡_};
 ghost use lib.ListN.{length};
@@ -30,7 +30,7 @@ pub fn find_name(edition: u64, s: &[u8], k: u64) -> View
 {
     let c = deck::pass(edition, s);
     let Scan::Is(n, _) = c else {
-        return view::no_view(deck::scan_says(c));
+        return view::no_view(scan::scan_says(c));
     };
     if n <= k {
         return View::No(Fault::Absent, 0);

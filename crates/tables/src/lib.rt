@@ -1,10 +1,10 @@
 // Reading a deck into two lent tables of 32-bit numbers: a pass that judges it, then one that fills them.
-use deck::Scan;
 use format::Fault;
 use format::Outcome;
 use format::Read;
 use kind::Edition;
 use kind::Product;
+use scan::Scan;
 ghost use mathlib.Core.Path.{_≡_};
 ghost use mathlib.Core.List.{[], _∷_};
 ghost use Prim.Native.Nat.{_≤_, _<_, _+_, _^_};
@@ -220,7 +220,7 @@ pub fn read(edition: u64, s: &[u8], rules: &mut [u32], elements: &mut [u32]) -> 
     };
     let scan = deck::pass(edition, s);
     let Scan::Is(n, m) = scan else {
-        return deck::scan_says(scan);
+        return scan::scan_says(scan);
     };
     let o = room(n, m, rules.len(), elements.len());
     let Outcome::Done(_) = o else {

@@ -1,5 +1,4 @@
 // A word of an element as a part of the deck's bytes.
-use deck::Scan;
 use format::Fault;
 use format::Outcome;
 use format::Read;
@@ -7,6 +6,7 @@ use kind::Edition;
 use kind::Kind;
 use kind::Product;
 use kind::Row;
+use scan::Scan;
 use view::View;
 ghost use mathlib.Core.Path.{_≡_};
 ghost use lib.ListN.{length};
@@ -133,7 +133,7 @@ pub fn find_word(edition: u64, s: &[u8], k: u64, e: u64, w: u64) -> View
     };
     let c = deck::pass(edition, s);
     let Scan::Is(n, _) = c else {
-        return view::no_view(deck::scan_says(c));
+        return view::no_view(scan::scan_says(c));
     };
     if n <= k {
         return View::No(Fault::Absent, 0);

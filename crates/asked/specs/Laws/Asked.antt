@@ -15,8 +15,8 @@ use Rattle.kind.specs.declared.Edition.{Edition}
 use Rattle.kind.specs.declared.Edition.the-variants as Edition
 use Rattle.kind.specs.Kinds.{editionOf}
 use Rattle.rule.specs.Rule.{Rule, rule}
-use Rattle.deck.specs.declared.Scan.{Scan}
-use Rattle.deck.specs.declared.Scan.the-variants as Scan
+use Rattle.scan.specs.declared.Scan.{Scan}
+use Rattle.scan.specs.declared.Scan.the-variants as Scan
 use Rattle.deck.specs.Deck.{readAs, readBy, readDeck, scanned}
 use Rattle.deck.specs.Written.{startOf}
 use Rattle.locate.specs.Laws.Steps.{Sound, sound-read, Here, here, here-stands, Reached, reached-is, reached-never}

@@ -22,7 +22,8 @@ use Rattle.kind.specs.Kinds.{editionOf}
 use Rattle.element.specs.Data.{wordsOf}
 use Rattle.element.specs.Element.{Element}
 use Rattle.rule.specs.Rule.{Rule, elementsIn}
-use Rattle.deck.specs.Deck.{readAs, readBy, readDeck, answered, scanned, scanSays}
+use Rattle.scan.specs.Scan.{scanSays}
+use Rattle.deck.specs.Deck.{readAs, readBy, readDeck, answered, scanned}
 use Rattle.plan.specs.Edit.{Edit, switch, rename, remove, insert, addRule, addElement, addWord, Plan, become, refuse, refuseGiven, planned, says, Edits}
 use Rattle.given.specs.Given.{given}
 use Rattle.plan.specs.Handed.{Handed}

@@ -12,7 +12,7 @@ use borrow.Author.Tests.{le-leb, lt-leb, leb-true, eq-eqb, ne-eqb, eqb-true}
 use Rattle.format.specs.declared.Fault.{Fault}
 use Rattle.format.specs.declared.Fault.the-variants as Fault
 use Rattle.format.specs.declared.Outcome.{Outcome}
-use Rattle.format.specs.declared.Outcome.the-variants.{Done, No, Given}
+use Rattle.format.specs.declared.Outcome.the-variants.{No}
 use Rattle.format.specs.Fault.{placeOf}
 use Rattle.format.specs.Laws.Fault.{endSays}
 use Rattle.format.specs.Format.{Answer, got, refused, shift, mapped, andThen, endOf, Bytes, pick, whole}
@@ -32,9 +32,11 @@ use Rattle.kind.specs.declared.Edition.{Edition}
 use Rattle.kind.specs.declared.Edition.the-variants as Edition
 use Rattle.kind.specs.Kinds.{editionOf}
 use Rattle.rule.specs.Rule.{Rule, rule, elementsIn}
-use Rattle.deck.specs.declared.Scan.{Scan}
-use Rattle.deck.specs.declared.Scan.the-variants as Scan
-use Rattle.deck.specs.Deck.{mark, header, deck, readAs, readBy, readDeck, answered, scanned, scanSays}
+use Rattle.scan.specs.declared.Scan.{Scan}
+use Rattle.scan.specs.declared.Scan.the-variants as Scan
+use Rattle.scan.specs.Scan.{scanSays}
+use Rattle.scan.specs.Laws.Scan.{noScan, scan-hands}
+use Rattle.deck.specs.Deck.{mark, header, deck, readAs, readBy, readDeck, answered, scanned}
 
 -- ---- demand 2: "what is written reads back as given"
 pub written-reads-back : (p : Product) (rs : List Rule) → deck p .Fit rs → length (deck p .write rs) ≤ 60000 → readAs p (deck p .write rs) ≡ got rs (length (deck p .write rs))
@@ -88,22 +90,12 @@ header-small s bs e k =
     let f = header .forth s (o .x) (o .n) bs (o .is) .fit in
     rw (o .tells) (within-is 0 256 (o .x) (then-fit _ _ (o .x) (then-fit _ _ (o .x) f) .1) .1)
 
--- a refusal as that of a pass
-abbrev pub noScan : Outcome → Scan
-noScan (Done n) = Scan.Is 0 0
-noScan (No c p) = Scan.No c p
-noScan (Given c p) = Scan.No c p
-
 scan-answers : (a : Answer (List Rule)) → scanSays (scanned a) ≡ answered a
 scan-answers (got rs n) = refl
 scan-answers (refused c p) = refl
 
 scan-says : (a : Answer (List Rule)) {r : Scan} → r ≡ scanned a → (r ≡ scanned a) × (scanSays r ≡ answered a)
 scan-says a e = (e, ap scanSays e ∙ scan-answers a)
-
--- a reader's refusal, handed on
-scan-hands : {h : Read} {o : Outcome} {x : Scan} {c : Fault} {q : ℕ} → h ≡ Read.No c q → o ≡ endSays h → x ≡ noScan o → x ≡ Scan.No c q
-scan-hands k e f = f ∙ ap noScan (e ∙ ap endSays k)
 
 module _ (p : Product) (s : List ℕ) where
   pub scan-long : 60000 < length s → Scan.No Fault.Long 60000 ≡ scanned (readAs p s)

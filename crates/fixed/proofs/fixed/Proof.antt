@@ -4,7 +4,7 @@ use Rattle.fixed.specs.Fixed.{fixedFields}
 use Rattle.fixed.specs.Laws.Fixed.{noFields, fields-say}
 use Rattle.asked.specs.Laws.Asked.{asked-refused, asked-absent, asked-is}
 use mathlib.Core.Path.{ap, _∙_}
-use Rattle.deck.specs.Deck.{scanSays}
+use Rattle.scan.specs.Scan.{scanSays}
 use borrow.Author.Needs.{needs}
 use Rattle.fixed.proofs.fixed.Statement.{statement}
 use Rattle.fixed.proofs.fixed.Tie as tie

@@ -32,10 +32,11 @@ use Rattle.rule.specs.Rule.{Rule, rule}
 use Rattle.rule.specs.Laws.Parts.{front, back, sizeOf, body-size, rule-is}
 use Rattle.rule.specs.Places.{ruleBytes}
 use Rattle.rule.specs.Laws.Places.{rule-parts}
-use Rattle.deck.specs.Deck.{deck, readAs, readBy, readDeck, scanned, scanSays}
+use Rattle.deck.specs.Deck.{deck, readAs, readBy, readDeck, scanned}
 use Rattle.deck.specs.Laws.Deck.{deck-row, read-writes-back}
-use Rattle.deck.specs.declared.Scan.{Scan}
-use Rattle.deck.specs.declared.Scan.the-variants as Scan
+use Rattle.scan.specs.declared.Scan.{Scan}
+use Rattle.scan.specs.declared.Scan.the-variants as Scan
+use Rattle.scan.specs.Scan.{scanSays}
 use Rattle.deck.specs.Written.{written, startOf}
 use Rattle.deck.specs.Laws.Written.{written-as, written-is, rules, rules-cons, before, before-long, start-is, start-as}
 use Rattle.locate.specs.declared.Spot.{Spot}

@@ -4,7 +4,7 @@ use Rattle.name_view.specs.Name.{nameView}
 use Rattle.view.specs.Laws.View.{view-hands, no-inside}
 use Rattle.asked.specs.Laws.Asked.{asked-refused, asked-absent, asked-is}
 use mathlib.Core.Path.{ap, _∙_}
-use Rattle.deck.specs.Deck.{scanSays}
+use Rattle.scan.specs.Scan.{scanSays}
 use borrow.Author.Needs.{needs}
 use Rattle.name_view.proofs.find_name.Statement.{statement}
 use Rattle.name_view.proofs.find_name.Tie as tie

@@ -22,10 +22,11 @@ use Rattle.kind.specs.declared.Edition.{Edition}
 use Rattle.kind.specs.declared.Edition.the-variants as Edition
 use Rattle.kind.specs.Kinds.{editionOf}
 use Rattle.rule.specs.Rule.{Rule, rule, elementsIn}
-use Rattle.deck.specs.declared.Scan.{Scan}
-use Rattle.deck.specs.declared.Scan.the-variants as Scan
+use Rattle.scan.specs.declared.Scan.{Scan}
+use Rattle.scan.specs.declared.Scan.the-variants as Scan
+use Rattle.scan.specs.Scan.{scanSays}
 use Rattle.deck.specs.Laws.Deck.{deck-row, read-writes-back, deck-small}
-use Rattle.deck.specs.Deck.{readAs, readBy, readDeck, scanned, scanSays}
+use Rattle.deck.specs.Deck.{readAs, readBy, readDeck, scanned}
 use Rattle.tables.specs.Tables.{ruleWidth, elementWidth, ruleRows, allElementRows, inTables, tabled, rulesLeft, elementsLeft, readSays, rulesAfter, elementsAfter}
 use Rattle.buffer.specs.Laid.{put}
 use Rattle.tables.specs.Laws.Fill.{put-front}

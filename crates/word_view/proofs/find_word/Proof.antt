@@ -4,7 +4,7 @@ use Rattle.asked.specs.Laws.Asked.{by-product, asked-none, asked-refused, asked
 use Rattle.format.specs.Laws.Format.{bytes-all}
 use Rattle.view.specs.Laws.View.{view-hands, no-inside}
 use mathlib.Core.Path.{ap, _∙_}
-use Rattle.deck.specs.Deck.{scanSays}
+use Rattle.scan.specs.Scan.{scanSays}
 use borrow.Author.Needs.{needs}
 use Rattle.word_view.proofs.find_word.Statement.{statement}
 use Rattle.word_view.proofs.find_word.Tie as tie

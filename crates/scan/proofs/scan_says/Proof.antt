@@ -1,6 +1,6 @@
 use borrow.Author.Needs.{needs}
-use Rattle.deck.proofs.scan_says.Statement.{statement}
-use Rattle.deck.proofs.scan_says.Tie as tie
+use Rattle.scan.proofs.scan_says.Statement.{statement}
+use Rattle.scan.proofs.scan_says.Tie as tie
 
 returns : tie.Need-returns
 returns c = simp (c .before .c .given .1)

@@ -1,6 +1,6 @@
 use borrow.Author.Needs.{needs}
-use Rattle.deck.proofs.no_scan.Statement.{statement}
-use Rattle.deck.proofs.no_scan.Tie as tie
+use Rattle.scan.proofs.no_scan.Statement.{statement}
+use Rattle.scan.proofs.no_scan.Tie as tie
 
 returns : tie.Need-returns-2
 returns c = simp (c .before .o .given .1)
