@@ -4,7 +4,7 @@ use format::Outcome;
 use format::Read;
 use kind::Edition;
 use kind::Product;
-use locate::Spot;
+use spot::Spot;
 ghost use Prim.Native.Nat.{_+_, _≤_, _<_};
 ghost use mathlib.Core.Path.{_≡_};
 ghost use lib.ListN.{length};
@@ -94,7 +94,7 @@ pub fn add_element(edition: u64, buf: &mut [u8], n: usize, identifier: u32, s: &
     };
     let f = plan::find_last(edition, buf, n);
     let Spot::Is(m, a, _) = f else {
-        return locate::spot_says(f);
+        return spot::spot_says(f);
     };
     element_in(buf, n, product, identifier, s, m, a)
 }

@@ -4,8 +4,8 @@ use format::Outcome;
 use format::Read;
 use kind::Edition;
 use kind::Product;
-use locate::Spot;
 use rule::Fields;
+use spot::Spot;
 ghost use Prim.Native.Nat.{ℕ, _+_, _≤_, _<_};
 ghost use mathlib.Core.Path.{_≡_};
 ghost use mathlib.Core.Bool.{true};
@@ -122,7 +122,7 @@ pub fn add_rule(
     };
     let f = plan::find_last(edition, buf, n);
     let Spot::Is(m, _, _) = f else {
-        return locate::spot_says(f);
+        return spot::spot_says(f);
     };
     rule_in(buf, n, product, m, name, fields, identifier, s)
 }

@@ -2,7 +2,7 @@
 use format::Fault;
 use format::Outcome;
 use format::Read;
-use locate::Spot;
+use spot::Spot;
 ghost use mathlib.Core.Path.{_≡_};
 ghost use Prim.Native.Nat.{_+_, _-_, _≤_, _<_};
 ghost use lib.ListN.{length};
@@ -126,7 +126,7 @@ fn insert_from(
 {
     let f = locate::locate(edition, second, j);
     let Spot::Is(q, c, e) = f else {
-        return format::in_given(locate::spot_says(f));
+        return format::in_given(spot::spot_says(f));
     };
     insert_copy(buf, n, k, m, a, b, second, j, q, c, e)
 }
@@ -137,7 +137,7 @@ pub fn insert(edition: u64, buf: &mut [u8], n: usize, k: u64, second: &[u8], j: 
 {
     let f = plan::find(edition, buf, n, k);
     let Spot::Is(m, a, b) = f else {
-        return locate::spot_says(f);
+        return spot::spot_says(f);
     };
     insert_from(edition, buf, n, k, m, a, b, second, j)
 }

@@ -1,39 +1,12 @@
 // Where a rule of a deck stands: the deck is judged by one pass, and the rules before it are stepped over by their Data Size.
 use format::Fault;
-use format::Outcome;
 use format::Read;
 use scan::Scan;
+use spot::Spot;
 ghost use mathlib.Core.Path.{_≡_};
 ghost use Rattle.deck.specs.Deck.{readDeck};
-ghost use Rattle.locate.specs.Laws.Located.{located, lastOf, spotSays, noSpot};
+ghost use Rattle.locate.specs.Laws.Located.{located, lastOf};
 ghost use Rattle.locate.specs.Laws.Steps.{nameRead, Follows, Reached, Spots};
-
-// The number of rules, where rule k starts and where it ends; past the last rule both are the end of the deck.
-pub enum Spot {
-    Is(u64, usize, usize),
-    No(Fault, usize),
-}
-
-// What a place says.
-pub fn spot_says(f: Spot) -> Outcome
-    ensures { λ r. ⌜ r ≡ spotSays f ⌝ }
-{
-    match f {
-        Spot::Is(_, _, _) => Outcome::Done(0),
-        Spot::No(c, p) => Outcome::No(c, p),
-    }
-}
-
-// A refusal as that of a place.
-fn no_spot(o: Outcome) -> Spot
-    ensures { λ r. ⌜ r ≡ noSpot o ⌝ }
-{
-    match o {
-        Outcome::Done(_) => Spot::Is(0, 0, 0),
-        Outcome::No(c, p) => Spot::No(c, p),
-        Outcome::Given(c, p) => Spot::No(c, p),
-    }
-}
 
 // The name of the rule that starts at a place; its value is the number of its units.
 pub fn name_end(s: &[u8], at: usize) -> Read
@@ -92,11 +65,11 @@ fn spot_of(s: &[u8], n: u64, k: u64) -> Spot
     }
     let f = start_of(s, k);
     let Read::Got(_, a) = f else {
-        return no_spot(format::end_says(f));
+        return spot::no_spot(format::end_says(f));
     };
     let e = end_of(s, a);
     let Read::Got(_, b) = e else {
-        return no_spot(format::end_says(e));
+        return spot::no_spot(format::end_says(e));
     };
     Spot::Is(n, a, b)
 }
@@ -107,7 +80,7 @@ pub fn locate(edition: u64, s: &[u8], k: u64) -> Spot
 {
     let c = deck::pass(edition, s);
     let Scan::Is(n, _) = c else {
-        return no_spot(scan::scan_says(c));
+        return spot::no_spot(scan::scan_says(c));
     };
     spot_of(s, n, k)
 }
@@ -118,7 +91,7 @@ pub fn last(edition: u64, s: &[u8]) -> Spot
 {
     let c = deck::pass(edition, s);
     let Scan::Is(n, _) = c else {
-        return no_spot(scan::scan_says(c));
+        return spot::no_spot(scan::scan_says(c));
     };
     if n == 0 {
         return spot_of(s, 0, 0);

@@ -1,7 +1,7 @@
 // What every edit begins with: its deck found in its buffer.
 use format::Fault;
 use kind::Edition;
-use locate::Spot;
+use spot::Spot;
 ghost use mathlib.Core.Path.{_≡_};
 ghost use Rattle.locate.specs.Laws.Located.{lastOf};
 ghost use Rattle.plan.specs.Laws.Found.{found};

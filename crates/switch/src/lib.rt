@@ -2,7 +2,7 @@
 use format::Fault;
 use format::Outcome;
 use format::Read;
-use locate::Spot;
+use spot::Spot;
 ghost use Prim.Native.Nat.{ℕ};
 ghost use Rattle.plan.specs.Edit.{switch, Edits};
 ghost use Rattle.plan.specs.Laws.Found.{Makes};
@@ -28,7 +28,7 @@ pub fn switch(edition: u64, buf: &mut [u8], n: usize, k: u64, on: bool) -> Outco
 {
     let f = plan::find(edition, buf, n, k);
     let Spot::Is(m, a, b) = f else {
-        return locate::spot_says(f);
+        return spot::spot_says(f);
     };
     switch_at(buf, n, k, m, a, b, on)
 }

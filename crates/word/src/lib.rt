@@ -4,7 +4,7 @@ use format::Outcome;
 use format::Read;
 use kind::Edition;
 use kind::Product;
-use locate::Spot;
+use spot::Spot;
 ghost use Prim.Native.Nat.{_≤_, _<_};
 ghost use mathlib.Core.Path.{_≡_};
 ghost use mathlib.Core.Bool.{true};
@@ -80,7 +80,7 @@ pub fn add_word(edition: u64, buf: &mut [u8], n: usize, word: &[u8]) -> Outcome
     };
     let f = plan::find_last(edition, buf, n);
     let Spot::Is(m, a, _) = f else {
-        return locate::spot_says(f);
+        return spot::spot_says(f);
     };
     word_in(buf, n, product, word, m, a)
 }

@@ -32,9 +32,10 @@ use Rattle.deck.specs.Written.{startOf, written}
 use Rattle.buffer.specs.Laid.{putIn}
 use Rattle.room.specs.Room.{roomFor}
 use Rattle.buffer.specs.Laws.Holds.{Holds, Gap, holds-put, holds-fill}
-use Rattle.locate.specs.declared.Spot.{Spot}
-use Rattle.locate.specs.declared.Spot.the-variants as Spot
-use Rattle.locate.specs.Laws.Located.{located, spotSays}
+use Rattle.spot.specs.declared.Spot.{Spot}
+use Rattle.spot.specs.declared.Spot.the-variants as Spot
+use Rattle.spot.specs.Laws.Spot.{spotSays}
+use Rattle.locate.specs.Laws.Located.{located}
 use Rattle.locate.specs.Laws.Steps.{Sound, sound-read, Here, here, here-stands, nameRead, nameEnd, name-end, name-never, start-within, start-past}
 use Rattle.plan.specs.Edit.{Plan, become, refuse, refuseGiven, atCopy, atSecond, insert, edited}
 use Rattle.plan.specs.Laws.Found.{Makes, Does, Within, found, ground, found-within}

@@ -39,9 +39,10 @@ use Rattle.scan.specs.declared.Scan.the-variants as Scan
 use Rattle.scan.specs.Scan.{scanSays}
 use Rattle.deck.specs.Written.{written, startOf}
 use Rattle.deck.specs.Laws.Written.{written-as, written-is, rules, rules-cons, before, before-long, start-is, start-as}
-use Rattle.locate.specs.declared.Spot.{Spot}
-use Rattle.locate.specs.declared.Spot.the-variants as Spot
-use Rattle.locate.specs.Laws.Located.{located, noSpot}
+use Rattle.spot.specs.declared.Spot.{Spot}
+use Rattle.spot.specs.declared.Spot.the-variants as Spot
+use Rattle.spot.specs.Laws.Spot.{noSpot}
+use Rattle.locate.specs.Laws.Located.{located}
 
 -- ---- a sound deck: its rules fit, and it is what they are written as
 pub record Sound (p : Product) (s : List ℕ) (rs : List Rule) : Type 0 where

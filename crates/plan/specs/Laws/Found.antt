@@ -22,9 +22,10 @@ use Rattle.rule.specs.Rule.{Rule}
 use Rattle.deck.specs.Deck.{readAs, readBy, readDeck}
 use Rattle.deck.specs.Laws.Deck.{deck-small}
 use Rattle.deck.specs.Written.{startOf}
-use Rattle.locate.specs.declared.Spot.{Spot}
-use Rattle.locate.specs.declared.Spot.the-variants as Spot
-use Rattle.locate.specs.Laws.Located.{located, spotSays}
+use Rattle.spot.specs.declared.Spot.{Spot}
+use Rattle.spot.specs.declared.Spot.the-variants as Spot
+use Rattle.spot.specs.Laws.Spot.{spotSays}
+use Rattle.locate.specs.Laws.Located.{located}
 use Rattle.locate.specs.Laws.Steps.{Sound, sound-read, start-within}
 use Rattle.plan.specs.Edit.{Edit, Plan, refuse, edited, inRoom, plan, planBy, planned, says, leaves, Edits}
 

@@ -21,8 +21,8 @@ use Rattle.deck.specs.Laws.Written.{before, rules}
 use Rattle.buffer.specs.Laid.{putIn}
 use Rattle.buffer.specs.Laws.Laid.{opened}
 use Rattle.buffer.specs.Laws.Holds.{Holds, holds-start, holds-open, holds-fill}
-use Rattle.locate.specs.declared.Spot.{Spot}
-use Rattle.locate.specs.declared.Spot.the-variants as Spot
+use Rattle.spot.specs.declared.Spot.{Spot}
+use Rattle.spot.specs.declared.Spot.the-variants as Spot
 use Rattle.locate.specs.Laws.Steps.{Sound, Here, here, nameEnd}
 use Rattle.given.specs.Given.{isText, units}
 use Rattle.plan.specs.Edit.{become, rename, edited, renamed}

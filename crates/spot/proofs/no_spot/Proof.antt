@@ -1,6 +1,6 @@
 use borrow.Author.Needs.{needs}
-use Rattle.locate.proofs.no_spot.Statement.{statement}
-use Rattle.locate.proofs.no_spot.Tie as tie
+use Rattle.spot.proofs.no_spot.Statement.{statement}
+use Rattle.spot.proofs.no_spot.Tie as tie
 
 returns-2 : tie.Need-returns-2
 returns-2 c = simp (c .before .o .given .1)

@@ -1,6 +1,6 @@
 use borrow.Author.Needs.{needs}
-use Rattle.locate.proofs.spot_says.Statement.{statement}
-use Rattle.locate.proofs.spot_says.Tie as tie
+use Rattle.spot.proofs.spot_says.Statement.{statement}
+use Rattle.spot.proofs.spot_says.Tie as tie
 
 returns-2 : tie.Need-returns-2
 returns-2 c = simp (c .before .f .given .1)
