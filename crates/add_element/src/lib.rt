@@ -67,11 +67,11 @@ fn element_in(
         return Outcome::No(Fault::Last, 0);
     }
     let t = locate::name_end(buf, a);
-    let Read::Got(_, e) = t else {
+    let Read::Got(e, _) = t else {
         return format::end_says(t);
     };
     let z = wire::u16_at(buf, e + 24);
-    let Read::Got(count, _) = z else {
+    let Read::Got(_, count) = z else {
         return format::end_says(z);
     };
     if 64 <= count {

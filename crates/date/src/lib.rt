@@ -29,11 +29,11 @@ pub fn date_at(s: &[u8], at: usize) -> Read
     ensures { λ r. ⌜ r ≡ seen itself date (now (s .entry)) at ⌝ }
 {
     let r = wire::u64_at(s, at);
-    let Read::Got(bits, _) = r else {
+    let Read::Got(_, bits) = r else {
         return r;
     };
     if is_date(bits) {
         return r;
     }
-    Read::No(Fault::Date, at)
+    Read::No(at, Fault::Date)
 }

@@ -19,11 +19,11 @@ fn header_at(s: &[u8]) -> Read
     ensures { λ r. ⌜ r ≡ seen itself header (now (s .entry)) 0 ⌝ }
 {
     let m = field::fixed24_at(s, 0, 0x4B_4452, Fault::Mark);
-    let Read::Got(_, p) = m else {
+    let Read::Got(p, _) = m else {
         return m;
     };
     let v = field::fixed16_at(s, p, 1, Fault::Version);
-    let Read::Got(_, q) = v else {
+    let Read::Got(q, _) = v else {
         return v;
     };
     field::count16_at(s, q, 0, 256)
@@ -39,14 +39,14 @@ fn rules_at(s: &[u8], at: usize, product: Product, n: u64) -> Read
     let mut p = at;
     while i < n {
         let r = whole_rule::rule_at(s, p, product, i);
-        let Read::Got(v, q) = r else {
+        let Read::Got(q, v) = r else {
             return r;
         };
         t += v;
         p = q;
         i += 1;
     }
-    Read::Got(t, p)
+    Read::Got(p, t)
 }
 
 // A pass over a deck by a product: 2 first, 13 last.
@@ -57,11 +57,11 @@ fn pass_as(product: Product, s: &[u8]) -> Scan
         return Scan::No(Fault::Long, 60000);
     }
     let h = header_at(s);
-    let Read::Got(n, p) = h else {
+    let Read::Got(p, n) = h else {
         return scan::no_scan(format::end_says(h));
     };
     let r = rules_at(s, p, product, n);
-    let Read::Got(t, q) = r else {
+    let Read::Got(q, t) = r else {
         return scan::no_scan(format::end_says(r));
     };
     if q != s.len() {

@@ -12,7 +12,7 @@ fn one_zero_at(s: &[u8], at: usize) -> Read
     ensures { λ r. ⌜ r ≡ seen none oneZero (now (s .entry)) at ⌝ }
 {
     let a = field::fixed32_at(s, at, 1);
-    let Read::Got(_, p) = a else {
+    let Read::Got(p, _) = a else {
         return a;
     };
     field::fixed32_at(s, p, 0)
@@ -22,7 +22,7 @@ fn marker_at(s: &[u8], at: usize) -> Read
     ensures { λ r. ⌜ r ≡ seen none markerData (now (s .entry)) at ⌝ }
 {
     let a = one_zero_at(s, at);
-    let Read::Got(_, p) = a else {
+    let Read::Got(p, _) = a else {
         return a;
     };
     field::fixed32_at(s, p, 1)
@@ -36,20 +36,20 @@ pub fn words_at(s: &[u8], at: usize, n: u64) -> Read
     let mut p = at;
     while i < n {
         let r = text::word_at(s, p);
-        let Read::Got(_, q) = r else {
+        let Read::Got(q, _) = r else {
             return r;
         };
         p = q;
         i += 1;
     }
-    Read::Got(0, p)
+    Read::Got(p, 0)
 }
 
 fn word_list_at(s: &[u8], at: usize) -> Read
     ensures { λ r. ⌜ r ≡ seen none wordData (now (s .entry)) at ⌝ }
 {
     let c = field::count32_at(s, at, 0, 64);
-    let Read::Got(n, p) = c else {
+    let Read::Got(p, n) = c else {
         return c;
     };
     words_at(s, p, n)
@@ -59,11 +59,11 @@ fn size_at(s: &[u8], at: usize) -> Read
     ensures { λ r. ⌜ r ≡ seen none sizeData (now (s .entry)) at ⌝ }
 {
     let a = one_zero_at(s, at);
-    let Read::Got(_, p) = a else {
+    let Read::Got(p, _) = a else {
         return a;
     };
     let min = wire::u32_at(s, p);
-    let Read::Got(_, q) = min else {
+    let Read::Got(q, _) = min else {
         return min;
     };
     format::untold(wire::u32_at(s, q))
@@ -74,11 +74,11 @@ fn limit_at(s: &[u8], at: usize) -> Read
     ensures { λ r. ⌜ r ≡ seen none limit (now (s .entry)) at ⌝ }
 {
     let f = field::flag_at(s, at);
-    let Read::Got(_, p) = f else {
+    let Read::Got(p, _) = f else {
         return f;
     };
     let z = field::fixed32_at(s, p, 0);
-    let Read::Got(_, q) = z else {
+    let Read::Got(q, _) = z else {
         return z;
     };
     format::untold(date::date_at(s, q))
@@ -88,11 +88,11 @@ fn dates_at(s: &[u8], at: usize) -> Read
     ensures { λ r. ⌜ r ≡ seen none dateData (now (s .entry)) at ⌝ }
 {
     let a = one_zero_at(s, at);
-    let Read::Got(_, p) = a else {
+    let Read::Got(p, _) = a else {
         return a;
     };
     let after = limit_at(s, p);
-    let Read::Got(_, q) = after else {
+    let Read::Got(q, _) = after else {
         return after;
     };
     limit_at(s, q)

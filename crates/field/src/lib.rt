@@ -10,14 +10,14 @@ ghost use Rattle.format.specs.Laws.Seen.{seen, itself, none, judgedCount, judge
 fn judged_count(r: Read, at: usize, low: u64, high: u64) -> Read
     ensures { λ x. ⌜ x ≡ judgedCount at low high r ⌝ }
 {
-    let Read::Got(n, _) = r else {
+    let Read::Got(_, n) = r else {
         return r;
     };
     if n < low {
-        return Read::No(Fault::Count, at);
+        return Read::No(at, Fault::Count);
     }
     if high < n {
-        return Read::No(Fault::Count, at);
+        return Read::No(at, Fault::Count);
     }
     r
 }
@@ -39,13 +39,13 @@ pub fn count32_at(s: &[u8], at: usize, low: u64, high: u64) -> Read
 fn judged_fixed(r: Read, at: usize, v: u64, fault: Fault) -> Read
     ensures { λ x. ⌜ x ≡ judgedFixed at v fault r ⌝ }
 {
-    let Read::Got(n, p) = r else {
+    let Read::Got(p, n) = r else {
         return r;
     };
     if n != v {
-        return Read::No(fault, at);
+        return Read::No(at, fault);
     }
-    Read::Got(0, p)
+    Read::Got(p, 0)
 }
 
 // A constant of 2, 3 or 4 bytes.
@@ -72,11 +72,11 @@ pub fn flag_at(s: &[u8], at: usize) -> Read
     ensures { λ r. ⌜ r ≡ seen bit flag (now (s .entry)) at ⌝ }
 {
     let r = wire::u32_at(s, at);
-    let Read::Got(x, _) = r else {
+    let Read::Got(_, x) = r else {
         return r;
     };
     if 1 < x {
-        return Read::No(Fault::Field, at);
+        return Read::No(at, Fault::Field);
     }
     r
 }

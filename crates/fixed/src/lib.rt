@@ -31,23 +31,23 @@ fn kept_at(s: &[u8], at: usize, signature: u64) -> Fielded
     ensures { λ v. ⌜ Kept (now (s .entry)) at signature v ⌝ }
 {
     let a = wire::u32_at(s, at);
-    let Read::Got(on, p) = a else {
+    let Read::Got(p, on) = a else {
         return no_fields(format::end_says(a));
     };
     let b = wire::u32_at(s, p);
-    let Read::Got(unknown2, q) = b else {
+    let Read::Got(q, unknown2) = b else {
         return no_fields(format::end_says(b));
     };
     let c = wire::u32_at(s, q);
-    let Read::Got(unknown3, r) = c else {
+    let Read::Got(r, unknown3) = c else {
         return no_fields(format::end_says(c));
     };
     let d = wire::u32_at(s, r);
-    let Read::Got(unknown4, t) = d else {
+    let Read::Got(t, unknown4) = d else {
         return no_fields(format::end_says(d));
     };
     let e = wire::u32_at(s, t);
-    let Read::Got(unknown5, _) = e else {
+    let Read::Got(_, unknown5) = e else {
         return no_fields(format::end_says(e));
     };
     Fielded::Is(Fields {
@@ -65,15 +65,15 @@ fn fields_at(s: &[u8], k: u64) -> Fielded
     ensures { λ v. ⌜ Tells (now (s .entry)) k fixedAt v ⌝ }
 {
     let r = locate::start_of(s, k);
-    let Read::Got(_, at) = r else {
+    let Read::Got(at, _) = r else {
         return no_fields(format::end_says(r));
     };
     let g = wire::u32_at(s, at);
-    let Read::Got(signature, _) = g else {
+    let Read::Got(_, signature) = g else {
         return no_fields(format::end_says(g));
     };
     let t = locate::name_end(s, at);
-    let Read::Got(_, e) = t else {
+    let Read::Got(e, _) = t else {
         return no_fields(format::end_says(t));
     };
     kept_at(s, e, signature)

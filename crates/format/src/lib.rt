@@ -30,10 +30,10 @@ pub enum Fault {
     Last,
 }
 
-// A value with the place past it, or a fault with its place.
+// The place past a value, and the value; or the place of a fault, and the fault.
 pub enum Read {
-    Got(u64, usize),
-    No(Fault, usize),
+    Got(usize, u64),
+    No(usize, Fault),
 }
 
 // What a call answers: done, with a place or a number as document 01 says; a fault with its place; or the same
@@ -79,7 +79,7 @@ pub fn untold(r: Read) -> Read
     ensures { λ x. ⌜ x ≡ toldNothing r ⌝ }
 {
     match r {
-        Read::Got(_, n) => Read::Got(0, n),
+        Read::Got(n, _) => Read::Got(n, 0),
         Read::No(_, _) => r,
     }
 }
@@ -89,8 +89,8 @@ pub fn end_says(r: Read) -> Outcome
     ensures { λ x. ⌜ x ≡ endSays r ⌝ }
 {
     match r {
-        Read::Got(_, n) => Outcome::Done(n),
-        Read::No(c, p) => Outcome::No(c, p),
+        Read::Got(n, _) => Outcome::Done(n),
+        Read::No(p, c) => Outcome::No(c, p),
     }
 }
 
@@ -99,9 +99,9 @@ pub fn no_read(o: Outcome) -> Read
     ensures { λ x. ⌜ x ≡ noRead o ⌝ }
 {
     match o {
-        Outcome::Done(n) => Read::Got(0, n),
-        Outcome::No(c, p) => Read::No(c, p),
-        Outcome::Given(c, p) => Read::No(c, p),
+        Outcome::Done(n) => Read::Got(n, 0),
+        Outcome::No(c, p) => Read::No(p, c),
+        Outcome::Given(c, p) => Read::No(p, c),
     }
 }
 

@@ -23,11 +23,11 @@ pub fn given_element(product: Product, identifier: u32, s: &[u8]) -> Read
         return format::no_read(kind::kind_says(row));
     };
     let r = element::data_at(s, 0, kind);
-    let Read::Got(_, e) = r else {
+    let Read::Got(e, _) = r else {
         return r;
     };
     if e != s.len() {
-        return Read::No(Fault::Over, e);
+        return Read::No(e, Fault::Over);
     }
-    Read::Got(0, e)
+    Read::Got(e, 0)
 }

@@ -15,10 +15,10 @@ fn named_data_at(s: &[u8], at: usize, kind: Kind, identifier: u64) -> Read
     ensures { λ r. ⌜ r ≡ seen (λ d. identifier) (dataOf kind) (now (s .entry)) at ⌝ }
 {
     let d = element::data_at(s, at, kind);
-    let Read::Got(_, q) = d else {
+    let Read::Got(q, _) = d else {
         return d;
     };
-    Read::Got(identifier, q)
+    Read::Got(q, identifier)
 }
 
 // The element at the start of a part; its value is its identifier.
@@ -26,13 +26,13 @@ fn read_element(rest: &[u8], product: Product) -> Read
     ensures { λ r. ⌜ r ≡ seen named (element product) (now (rest .entry)) 0 ⌝ }
 {
     let r = wire::u32_at(rest, 0);
-    let Read::Got(identifier, p) = r else {
+    let Read::Got(p, identifier) = r else {
         return r;
     };
     let row = row::row_for(product, identifier);
     match row {
         Row::Is(kind) => named_data_at(rest, p, kind, identifier),
-        Row::No(c, _) => Read::No(c, 0),
+        Row::No(c, _) => Read::No(0, c),
     }
 }
 
@@ -41,12 +41,12 @@ pub fn element_at(s: &[u8], at: usize, product: Product) -> Read
     ensures { λ r. ⌜ r ≡ seen named (element product) (now (s .entry)) at ⌝ }
 {
     if s.len() < at {
-        return Read::No(Fault::Cut, at);
+        return Read::No(at, Fault::Cut);
     }
     let rest = &s[at..];
     let r = read_element(rest, product);
     match r {
-        Read::Got(identifier, n) => Read::Got(identifier, at + n),
-        Read::No(c, p) => Read::No(c, at + p),
+        Read::Got(n, identifier) => Read::Got(at + n, identifier),
+        Read::No(p, c) => Read::No(at + p, c),
     }
 }

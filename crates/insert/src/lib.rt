@@ -98,7 +98,7 @@ fn insert_copy(
         return Outcome::No(Fault::Absent, 1);
     }
     let t = locate::name_end(second, c);
-    let Read::Got(_, name) = t else {
+    let Read::Got(name, _) = t else {
         return format::in_given(format::end_says(t));
     };
     let size = name + 20;

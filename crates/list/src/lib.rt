@@ -15,10 +15,10 @@ fn word_count(s: &[u8], at: usize) -> Read
     ensures { λ r. ⌜ Where wordData (now (s .entry)) at (listOf at) r ⌝ }
 {
     let z = wire::u32_at(s, at);
-    let Read::Got(count, _) = z else {
+    let Read::Got(_, count) = z else {
         return z;
     };
-    Read::Got(count, at)
+    Read::Got(at, count)
 }
 
 // The same of the data of a kind.
@@ -27,10 +27,10 @@ fn list_of(s: &[u8], at: usize, kind: Kind) -> Read
 {
     match kind {
         Kind::WordList => word_count(s, at),
-        Kind::Marker => Read::No(Fault::Last, 0),
-        Kind::Simple(_) => Read::No(Fault::Last, 0),
-        Kind::Size(_) => Read::No(Fault::Last, 0),
-        Kind::Dates(_) => Read::No(Fault::Last, 0),
+        Kind::Marker => Read::No(0, Fault::Last),
+        Kind::Simple(_) => Read::No(0, Fault::Last),
+        Kind::Size(_) => Read::No(0, Fault::Last),
+        Kind::Dates(_) => Read::No(0, Fault::Last),
     }
 }
 
@@ -39,7 +39,7 @@ fn list_in(s: &[u8], at: usize, product: Product, j: u64) -> Read
     ensures { λ r. ⌜ Carries product (now (s .entry)) at j listOf r ⌝ }
 {
     let x = walk::identifier_at(s, at, j);
-    let Read::Got(identifier, q) = x else {
+    let Read::Got(q, identifier) = x else {
         return x;
     };
     let row = row::row_for(product, identifier);
@@ -54,14 +54,14 @@ pub fn list_at(s: &[u8], at: usize, product: Product, i: u64) -> Read
     ensures { λ r. ⌜ Where (rule product i) (now (s .entry)) at (lastList product i at) r ⌝ }
 {
     let c = walk::elements_of(s, at, i);
-    let Read::Got(count, p) = c else {
+    let Read::Got(p, count) = c else {
         return c;
     };
     if count == 0 {
-        return Read::No(Fault::Last, 0);
+        return Read::No(0, Fault::Last);
     }
     let r = walk::element_start(s, p, product, count - 1);
-    let Read::Got(_, t) = r else {
+    let Read::Got(t, _) = r else {
         return r;
     };
     list_in(s, t, product, count - 1)

@@ -13,7 +13,7 @@ pub fn name_end(s: &[u8], at: usize) -> Read
     ensures { λ r. ⌜ r ≡ nameRead (now (s .entry)) at ⌝ }
 {
     if wire::left(s, at) < 4 {
-        return Read::No(Fault::Cut, at);
+        return Read::No(at, Fault::Cut);
     }
     text::string_at(s, at + 4)
 }
@@ -23,20 +23,20 @@ fn end_of(s: &[u8], at: usize) -> Read
     ensures { λ r. ⌜ Follows (now (s .entry)) at r ⌝ }
 {
     let t = name_end(s, at);
-    let Read::Got(_, e) = t else {
+    let Read::Got(e, _) = t else {
         return t;
     };
     if wire::left(s, e) < 20 {
-        return Read::No(Fault::Cut, e);
+        return Read::No(e, Fault::Cut);
     }
     let z = wire::u32_at(s, e + 20);
-    let Read::Got(size, p) = z else {
+    let Read::Got(p, size) = z else {
         return z;
     };
     if (wire::left(s, p) as u64) < size {
-        return Read::No(Fault::Size, e + 20);
+        return Read::No(e + 20, Fault::Size);
     }
-    Read::Got(0, p + size as usize)
+    Read::Got(p + size as usize, 0)
 }
 
 // Where rule k of a sound deck starts.
@@ -47,13 +47,13 @@ pub fn start_of(s: &[u8], k: u64) -> Read
     let mut p = 7;
     while i < k {
         let r = end_of(s, p);
-        let Read::Got(_, q) = r else {
+        let Read::Got(q, _) = r else {
             return r;
         };
         p = q;
         i += 1;
     }
-    Read::Got(0, p)
+    Read::Got(p, 0)
 }
 
 // Where rule k of a sound deck of n rules stands.
@@ -64,11 +64,11 @@ fn spot_of(s: &[u8], n: u64, k: u64) -> Spot
         return Spot::Is(n, s.len(), s.len());
     }
     let f = start_of(s, k);
-    let Read::Got(_, a) = f else {
+    let Read::Got(a, _) = f else {
         return spot::no_spot(format::end_says(f));
     };
     let e = end_of(s, a);
-    let Read::Got(_, b) = e else {
+    let Read::Got(b, _) = e else {
         return spot::no_spot(format::end_says(e));
     };
     Spot::Is(n, a, b)

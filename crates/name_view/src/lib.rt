@@ -17,7 +17,7 @@ fn name_at(s: &[u8], k: u64) -> View
     ensures { λ v. ⌜ Tells (now (s .entry)) k nameAt v × Inside v (length (now (s .entry))) ⌝ }
 {
     let r = locate::start_of(s, k);
-    let Read::Got(_, at) = r else {
+    let Read::Got(at, _) = r else {
         return view::no_view(format::end_says(r));
     };
     let t = locate::name_end(s, at);

@@ -23,7 +23,7 @@ fn open_first(buf: &mut [u8], n: usize, m: u64, b: usize, len: usize)
     ensures { λ _. ⌜ Opens n 0 m 7 b len (now (buf .entry)) (now (buf .exit)) ⌝ }
 {
     let t = locate::name_end(buf, 7);
-    let Read::Got(_, e) = t else {
+    let Read::Got(e, _) = t else {
         return;
     };
     if b < e {

@@ -48,7 +48,7 @@ fn remove_first(buf: &mut [u8], n: usize, m: u64, b: usize, e: usize) -> Outcome
     ensures { λ r. ⌜ ((edition k a : ℕ) → k ≡ 0 → e ≡ nameEnd (now (buf .entry)) b → Makes edition (λ rs. k) n m a b (remove k) (now (buf .entry)) r (now (buf .exit))) ⌝ }
 {
     let z = wire::u32_at(buf, e + 20);
-    let Read::Got(size, _) = z else {
+    let Read::Got(_, size) = z else {
         return format::end_says(z);
     };
     lead(buf, n, b, e + 26, size);
@@ -74,7 +74,7 @@ pub fn remove(edition: u64, buf: &mut [u8], n: usize, k: u64) -> Outcome
         return remove_other(buf, n, m, a, b);
     }
     let t = locate::name_end(buf, b);
-    let Read::Got(_, e) = t else {
+    let Read::Got(e, _) = t else {
         return format::end_says(t);
     };
     remove_first(buf, n, m, b, e)

@@ -41,7 +41,7 @@ pub fn rename(edition: u64, buf: &mut [u8], n: usize, k: u64, name: &[u8]) -> Ou
         return Outcome::No(Fault::Absent, 0);
     }
     let t = locate::name_end(buf, a);
-    let Read::Got(_, e) = t else {
+    let Read::Got(e, _) = t else {
         return format::end_says(t);
     };
     rename_at(buf, n, m, a, e, name)

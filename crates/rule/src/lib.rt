@@ -30,11 +30,11 @@ fn class_at(s: &[u8], at: usize) -> Read
     ensures { λ r. ⌜ r ≡ seen none classHead (now (s .entry)) at ⌝ }
 {
     let z = field::fixed16_at(s, at, 0x0000, Fault::Field);
-    let Read::Got(_, p) = z else {
+    let Read::Got(p, _) = z else {
         return z;
     };
     let n = field::fixed16_at(s, p, 0x000C, Fault::Field);
-    let Read::Got(_, q) = n else {
+    let Read::Got(q, _) = n else {
         return n;
     };
     wire::fixed96_at(s, q, 0x656C_4565_6C75_5243, 0x746E_656D)
@@ -48,7 +48,7 @@ pub fn head_at(s: &[u8], at: usize, i: u64) -> Read
         return separator_at(s, at);
     }
     let f = field::fixed16_at(s, at, 0xFFFF, Fault::Field);
-    let Read::Got(_, p) = f else {
+    let Read::Got(p, _) = f else {
         return f;
     };
     class_at(s, p)
@@ -59,7 +59,7 @@ fn lead_at(s: &[u8], at: usize, j: u64) -> Read
     ensures { λ r. ⌜ r ≡ leadAt j (now (s .entry)) at ⌝ }
 {
     if j == 0 {
-        return Read::Got(0, at);
+        return Read::Got(at, 0);
     }
     separator_at(s, at)
 }
@@ -69,7 +69,7 @@ pub fn placed_at(s: &[u8], at: usize, product: Product, j: u64) -> Read
     ensures { λ r. ⌜ r ≡ seen named (placed product j) (now (s .entry)) at ⌝ }
 {
     let b = lead_at(s, at, j);
-    let Read::Got(_, p) = b else {
+    let Read::Got(p, _) = b else {
         return b;
     };
     identified::element_at(s, p, product)

@@ -15,7 +15,7 @@ fn switch_at(buf: &mut [u8], n: usize, k: u64, m: u64, a: usize, b: usize, on: b
         return Outcome::No(Fault::Absent, 0);
     }
     let t = locate::name_end(buf, a);
-    let Read::Got(_, e) = t else {
+    let Read::Got(e, _) = t else {
         return format::end_says(t);
     };
     buffer::put_flag(buf, e, on);

@@ -77,7 +77,7 @@ fn fill_elements(
     let mut p = at;
     while j < n {
         let r = rule::placed_at(rest, p, product, j);
-        let Read::Got(id, q) = r else {
+        let Read::Got(q, id) = r else {
             return r;
         };
         let d = data_start(j, rule.start + p);
@@ -92,7 +92,7 @@ fn fill_elements(
         p = q;
         j += 1;
     }
-    Read::Got(n, p)
+    Read::Got(p, n)
 }
 
 // The number of a rule's elements, its head and its elements, in its part, and their rows; the value is their number.
@@ -103,11 +103,11 @@ fn fill_body(rest: &[u8], at: usize, product: Product, t: &mut [u32], rule: Entr
     ensures { λ r. ⌜ BodyFill product (now (rest .entry)) at (rule .start) (rule .i) (rule .k) (now (t .entry)) (now (t .exit)) r × Under (at + 120000) r ⌝ }
 {
     let c = wire::u16_at(rest, at);
-    let Read::Got(n, p) = c else {
+    let Read::Got(p, n) = c else {
         return c;
     };
     let h = rule::head_at(rest, p, rule.i);
-    let Read::Got(_, q) = h else {
+    let Read::Got(q, _) = h else {
         return h;
     };
     fill_elements(rest, q, product, n, t, rule)
@@ -126,15 +126,15 @@ fn fill_part(
     ensures { λ r. ⌜ PartFill product (now (rest .entry)) (rule .start) (rule .i) (rule .k) (now (rules .entry)) (now (rules .exit)) (now (elements .entry)) (now (elements .exit)) r × Under 200000 r ⌝ }
 {
     let l = text::length_at(rest, 4);
-    let Read::Got(_, units) = l else {
+    let Read::Got(units, _) = l else {
         return l;
     };
     let name = text::string_at(rest, 4);
-    let Read::Got(_, p) = name else {
+    let Read::Got(p, _) = name else {
         return name;
     };
     let r = fill_body(rest, p + 24, product, elements, rule);
-    let Read::Got(n, end) = r else {
+    let Read::Got(end, n) = r else {
         return r;
     };
     put4(
@@ -165,14 +165,14 @@ fn fill_rule(
     ensures { λ r. ⌜ RuleFill product (now (s .entry)) at i k (now (rules .entry)) (now (rules .exit)) (now (elements .entry)) (now (elements .exit)) r × Under (at + 200000) r ⌝ }
 {
     if s.len() < at {
-        return Read::No(Fault::Cut, at);
+        return Read::No(at, Fault::Cut);
     }
     let rest = &s[at..];
     let rule = Entry { start: at, i, k };
     let r = fill_part(rest, product, rules, elements, rule);
     match r {
-        Read::Got(n, p) => Read::Got(n, at + p),
-        Read::No(c, p) => Read::No(c, at + p),
+        Read::Got(p, n) => Read::Got(at + p, n),
+        Read::No(p, c) => Read::No(at + p, c),
     }
 }
 
@@ -187,14 +187,14 @@ fn fill_rules(s: &[u8], product: Product, n: u64, rules: &mut [u32], elements: &
     let mut k: usize = 0;
     while i < n {
         let r = fill_rule(s, p, product, i, rules, elements, k);
-        let Read::Got(m, q) = r else {
+        let Read::Got(q, m) = r else {
             return r;
         };
         k += ELEMENT_WIDTH * (m as usize);
         p = q;
         i += 1;
     }
-    Read::Got(n, p)
+    Read::Got(p, n)
 }
 
 // Whether tables of so many numbers have room for n rules and m elements: the rule table first.

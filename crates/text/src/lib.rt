@@ -12,17 +12,17 @@ pub fn length_at(s: &[u8], at: usize) -> Read
     ensures { λ r. ⌜ r ≡ seen itself stringLength (now (s .entry)) at ⌝ }
 {
     let b = wire::u8_at(s, at);
-    let Read::Got(n, p) = b else {
+    let Read::Got(p, n) = b else {
         return b;
     };
     if n != 255 {
         return b;
     }
     let w = field::fixed16_at(s, p, 255, Fault::Form);
-    let Read::Got(_, q) = w else {
+    let Read::Got(q, _) = w else {
         return w;
     };
-    Read::Got(n, q)
+    Read::Got(q, n)
 }
 
 // A String's refusal stands at its start.
@@ -31,7 +31,7 @@ fn refused_at(r: Read, at: usize) -> Read
 {
     match r {
         Read::Got(_, _) => r,
-        Read::No(c, _) => Read::No(c, at),
+        Read::No(_, c) => Read::No(at, c),
     }
 }
 
@@ -40,14 +40,14 @@ pub fn string_at(s: &[u8], at: usize) -> Read
     ensures { λ r. ⌜ r ≡ seen length string (now (s .entry)) at ⌝ }
 {
     let l = length_at(s, at);
-    let Read::Got(n, p) = l else {
+    let Read::Got(p, n) = l else {
         return refused_at(l, at);
     };
-    let units = n as usize;
-    if wire::left(s, p) / 2 < units {
-        return Read::No(Fault::Cut, at);
+    let end = p + 2 * (n as usize);
+    if s.len() < end {
+        return Read::No(at, Fault::Cut);
     }
-    Read::Got(n, p + 2 * units)
+    Read::Got(end, n)
 }
 
 // A word; its value is the number of its String's units.
@@ -55,7 +55,7 @@ pub fn word_at(s: &[u8], at: usize) -> Read
     ensures { λ r. ⌜ r ≡ seen length word (now (s .entry)) at ⌝ }
 {
     let z = field::fixed32_at(s, at, 0);
-    let Read::Got(_, p) = z else {
+    let Read::Got(p, _) = z else {
         return z;
     };
     string_at(s, p)

@@ -39,8 +39,8 @@ fn given(r: Read) -> Valued
     ensures { λ x. ⌜ x ≡ asGiven r ⌝ }
 {
     match r {
-        Read::Got(_, e) => Valued::Given(Fault::Over, e),
-        Read::No(c, p) => Valued::Given(c, p),
+        Read::Got(e, _) => Valued::Given(Fault::Over, e),
+        Read::No(p, c) => Valued::Given(c, p),
     }
 }
 
@@ -50,7 +50,7 @@ fn words_in(s: &[u8]) -> Valued
     ensures { λ r. ⌜ Holds wordData (now (s .entry)) (λ d. Words (length (wordsOf d))) r ⌝ }
 {
     let r = wire::u32_at(s, 0);
-    let Read::Got(n, _) = r else {
+    let Read::Got(_, n) = r else {
         return given(r);
     };
     Valued::Is(Value::Words(n as u32))
@@ -60,11 +60,11 @@ fn sizes_in(s: &[u8]) -> Valued
     ensures { λ r. ⌜ Holds sizeData (now (s .entry)) (λ d. Size (sizesOf d .0) (sizesOf d .1)) r ⌝ }
 {
     let a = wire::u32_at(s, 8);
-    let Read::Got(minimum, _) = a else {
+    let Read::Got(_, minimum) = a else {
         return given(a);
     };
     let b = wire::u32_at(s, 12);
-    let Read::Got(maximum, _) = b else {
+    let Read::Got(_, maximum) = b else {
         return given(b);
     };
     Valued::Is(Value::Size(minimum as u32, maximum as u32))
@@ -74,19 +74,19 @@ fn span_in(s: &[u8]) -> Valued
     ensures { λ r. ⌜ Holds dateData (now (s .entry)) (λ d. Dates (floats (spanOf d))) r ⌝ }
 {
     let f = field::flag_at(s, 8);
-    let Read::Got(starts, _) = f else {
+    let Read::Got(_, starts) = f else {
         return given(f);
     };
     let a = date::date_at(s, 16);
-    let Read::Got(after, _) = a else {
+    let Read::Got(_, after) = a else {
         return given(a);
     };
     let g = field::flag_at(s, 24);
-    let Read::Got(ends, _) = g else {
+    let Read::Got(_, ends) = g else {
         return given(g);
     };
     let b = date::date_at(s, 32);
-    let Read::Got(before, _) = b else {
+    let Read::Got(_, before) = b else {
         return given(b);
     };
     Valued::Is(Value::Dates(Span {
@@ -114,7 +114,7 @@ fn value_as(kind: Kind, identifier: u32, s: &[u8]) -> Valued
     ensures { λ r. ⌜ r ≡ fromKind kind identifier (now (s .entry)) ⌝ }
 {
     let r = element::data_at(s, 0, kind);
-    let Read::Got(_, e) = r else {
+    let Read::Got(e, _) = r else {
         return given(r);
     };
     if e != s.len() {

@@ -41,7 +41,7 @@ fn two(v: &[u8], at: usize) -> usize
 fn eight(v: &[u8], at: usize) -> u64 {
     let r = wire::u64_at(v, at);
     match r {
-        Read::Got(n, _) => n,
+        Read::Got(_, n) => n,
         Read::No(_, _) => 0,
     }
 }

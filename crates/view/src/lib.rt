@@ -30,7 +30,7 @@ pub fn no_view(o: Outcome) -> View
 pub fn units_of(s: &[u8], t: Read) -> View
     ensures { λ v. ⌜ v ≡ unitsOf (length (now (s .entry))) t ⌝ }
 {
-    let Read::Got(n, e) = t else {
+    let Read::Got(e, n) = t else {
         return no_view(format::end_says(t));
     };
     let units = n as usize;

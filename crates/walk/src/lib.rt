@@ -11,14 +11,14 @@ fn counted_at(s: &[u8], at: usize, i: u64) -> Read
     ensures { λ r. ⌜ Counts (now (s .entry)) at i r ⌝ }
 {
     let c = wire::u16_at(s, at);
-    let Read::Got(n, p) = c else {
+    let Read::Got(p, n) = c else {
         return c;
     };
     let h = rule::head_at(s, p, i);
-    let Read::Got(_, q) = h else {
+    let Read::Got(q, _) = h else {
         return h;
     };
-    Read::Got(n, q)
+    Read::Got(q, n)
 }
 
 // The same, from the start of rule i.
@@ -26,11 +26,11 @@ pub fn elements_of(s: &[u8], at: usize, i: u64) -> Read
     ensures { λ r. ⌜ Elements (now (s .entry)) at i r ⌝ }
 {
     let t = locate::name_end(s, at);
-    let Read::Got(_, e) = t else {
+    let Read::Got(e, _) = t else {
         return t;
     };
     if wire::left(s, e) < 24 {
-        return Read::No(Fault::Cut, e);
+        return Read::No(e, Fault::Cut);
     }
     counted_at(s, e + 24, i)
 }
@@ -43,13 +43,13 @@ pub fn element_start(s: &[u8], at: usize, product: Product, e: u64) -> Read
     let mut p = at;
     while j < e {
         let r = rule::placed_at(s, p, product, j);
-        let Read::Got(_, q) = r else {
+        let Read::Got(q, _) = r else {
             return r;
         };
         p = q;
         j += 1;
     }
-    Read::Got(0, p)
+    Read::Got(p, 0)
 }
 
 // The identifier of the element at place j of its rule, behind its 8001; it ends where its data start.
@@ -60,7 +60,7 @@ pub fn identifier_at(s: &[u8], at: usize, j: u64) -> Read
         return wire::u32_at(s, at);
     }
     if wire::left(s, at) < 2 {
-        return Read::No(Fault::Cut, at);
+        return Read::No(at, Fault::Cut);
     }
     wire::u32_at(s, at + 2)
 }

@@ -18,13 +18,13 @@ fn elements_at(s: &[u8], at: usize, product: Product, n: u64) -> Read
     let mut p = at;
     while j < n {
         let r = rule::placed_at(s, p, product, j);
-        let Read::Got(_, q) = r else {
+        let Read::Got(q, _) = r else {
             return r;
         };
         p = q;
         j += 1;
     }
-    Read::Got(0, p)
+    Read::Got(p, 0)
 }
 
 // The number of elements of rule i, its head and its elements; the value is their number, and so up to the rule.
@@ -32,18 +32,18 @@ fn body_at(s: &[u8], at: usize, product: Product, i: u64) -> Read
     ensures { λ r. ⌜ r ≡ seen length (body product i) (now (s .entry)) at ⌝ }
 {
     let c = field::count16_at(s, at, 1, 64);
-    let Read::Got(n, p) = c else {
+    let Read::Got(p, n) = c else {
         return c;
     };
     let h = rule::head_at(s, p, i);
-    let Read::Got(_, q) = h else {
+    let Read::Got(q, _) = h else {
         return h;
     };
     let x = elements_at(s, q, product, n);
-    let Read::Got(_, e) = x else {
+    let Read::Got(e, _) = x else {
         return x;
     };
-    Read::Got(n, e)
+    Read::Got(e, n)
 }
 
 // Whether `size` bytes lie between two places.
@@ -61,17 +61,17 @@ fn sized_at(s: &[u8], at: usize, product: Product, i: u64) -> Read
     ensures { λ r. ⌜ r ≡ seen length (sized Fault.Size (body product i)) (now (s .entry)) at ⌝ }
 {
     let d = wire::u32_at(s, at);
-    let Read::Got(size, p) = d else {
+    let Read::Got(p, size) = d else {
         return d;
     };
     let rest = body_at(s, p, product, i);
-    let Read::Got(n, q) = rest else {
+    let Read::Got(q, n) = rest else {
         return rest;
     };
     if spans(p, q, size) {
-        return Read::Got(n, q);
+        return Read::Got(q, n);
     }
-    Read::No(Fault::Size, at)
+    Read::No(at, Fault::Size)
 }
 
 // Unknown4, Unknown5, and from Data Size on.
@@ -79,11 +79,11 @@ fn unknown4_at(s: &[u8], at: usize, product: Product, i: u64) -> Read
     ensures { λ r. ⌜ r ≡ seen (λ f. length (f .1 .1)) (fromUnknown4 product i) (now (s .entry)) at ⌝ }
 {
     let a = wire::u32_at(s, at);
-    let Read::Got(_, p) = a else {
+    let Read::Got(p, _) = a else {
         return a;
     };
     let b = wire::u32_at(s, p);
-    let Read::Got(_, q) = b else {
+    let Read::Got(q, _) = b else {
         return b;
     };
     sized_at(s, q, product, i)
@@ -94,11 +94,11 @@ fn unknown2_at(s: &[u8], at: usize, product: Product, i: u64) -> Read
     ensures { λ r. ⌜ r ≡ seen (λ f. length (f .1 .1 .1 .1)) (fromUnknown2 product i) (now (s .entry)) at ⌝ }
 {
     let a = wire::u32_at(s, at);
-    let Read::Got(_, p) = a else {
+    let Read::Got(p, _) = a else {
         return a;
     };
     let b = wire::u32_at(s, p);
-    let Read::Got(_, q) = b else {
+    let Read::Got(q, _) = b else {
         return b;
     };
     unknown4_at(s, q, product, i)
@@ -109,15 +109,15 @@ fn read_rule(rest: &[u8], product: Product, i: u64) -> Read
     ensures { λ r. ⌜ r ≡ seen elementsIn (rule product i) (now (rest .entry)) 0 ⌝ }
 {
     let a = wire::u32_at(rest, 0);
-    let Read::Got(_, p) = a else {
+    let Read::Got(p, _) = a else {
         return a;
     };
     let name = text::string_at(rest, p);
-    let Read::Got(_, q) = name else {
+    let Read::Got(q, _) = name else {
         return name;
     };
     let on = field::flag_at(rest, q);
-    let Read::Got(_, e) = on else {
+    let Read::Got(e, _) = on else {
         return on;
     };
     unknown2_at(rest, e, product, i)
@@ -128,12 +128,12 @@ pub fn rule_at(s: &[u8], at: usize, product: Product, i: u64) -> Read
     ensures { λ r. ⌜ r ≡ seen elementsIn (rule product i) (now (s .entry)) at ⌝ }
 {
     if s.len() < at {
-        return Read::No(Fault::Cut, at);
+        return Read::No(at, Fault::Cut);
     }
     let rest = &s[at..];
     let r = read_rule(rest, product, i);
     match r {
-        Read::Got(v, n) => Read::Got(v, at + n),
-        Read::No(c, p) => Read::No(c, at + p),
+        Read::Got(n, v) => Read::Got(at + n, v),
+        Read::No(p, c) => Read::No(at + p, c),
     }
 }

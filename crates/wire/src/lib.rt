@@ -54,75 +54,82 @@ pub fn left(s: &[u8], at: usize) -> usize
     s.len() - at
 }
 
-// At how many places of a slice k bytes can be read: one number for all of them, so that a place costs one comparison.
-fn places(s: &[u8], k: usize) -> usize
-    requires { ⌜ 1 ≤ k ⌝ }
-    ensures { λ r. ⌜ r ≡ length (now (s .entry)) + 1 - k ⌝ }
-{
-    if k <= s.len() {
-        return s.len() - k + 1;
-    }
-    0
-}
-
 // A number of 1, 2, 3, 4 or 8 bytes.
 pub fn u8_at(s: &[u8], at: usize) -> Read
     ensures { λ r. ⌜ r ≡ seen itself (number 1) (now (s .entry)) at ⌝ }
 {
-    if places(s, 1) <= at {
-        return Read::No(Fault::Cut, at);
+    if s.len() < at {
+        return Read::No(at, Fault::Cut);
     }
-    Read::Got(one(s, at), at + 1)
+    if s.len() < at + 1 {
+        return Read::No(at, Fault::Cut);
+    }
+    Read::Got(at + 1, one(s, at))
 }
 
 pub fn u16_at(s: &[u8], at: usize) -> Read
     ensures { λ r. ⌜ r ≡ seen itself (number 2) (now (s .entry)) at ⌝ }
 {
-    if places(s, 2) <= at {
-        return Read::No(Fault::Cut, at);
+    if s.len() < at {
+        return Read::No(at, Fault::Cut);
     }
-    Read::Got(two(s, at), at + 2)
+    if s.len() < at + 2 {
+        return Read::No(at, Fault::Cut);
+    }
+    Read::Got(at + 2, two(s, at))
 }
 
 pub fn u24_at(s: &[u8], at: usize) -> Read
     ensures { λ r. ⌜ r ≡ seen itself (number 3) (now (s .entry)) at ⌝ }
 {
-    if places(s, 3) <= at {
-        return Read::No(Fault::Cut, at);
+    if s.len() < at {
+        return Read::No(at, Fault::Cut);
     }
-    Read::Got(three(s, at), at + 3)
+    if s.len() < at + 3 {
+        return Read::No(at, Fault::Cut);
+    }
+    Read::Got(at + 3, three(s, at))
 }
 
 pub fn u32_at(s: &[u8], at: usize) -> Read
     ensures { λ r. ⌜ r ≡ seen itself (number 4) (now (s .entry)) at ⌝ }
 {
-    if places(s, 4) <= at {
-        return Read::No(Fault::Cut, at);
+    if s.len() < at {
+        return Read::No(at, Fault::Cut);
     }
-    Read::Got(four(s, at), at + 4)
+    if s.len() < at + 4 {
+        return Read::No(at, Fault::Cut);
+    }
+    Read::Got(at + 4, four(s, at))
 }
 
 pub fn u64_at(s: &[u8], at: usize) -> Read
     ensures { λ r. ⌜ r ≡ seen itself (number 8) (now (s .entry)) at ⌝ }
 {
-    if places(s, 8) <= at {
-        return Read::No(Fault::Cut, at);
+    if s.len() < at {
+        return Read::No(at, Fault::Cut);
     }
-    Read::Got(eight(s, at), at + 8)
+    if s.len() < at + 8 {
+        return Read::No(at, Fault::Cut);
+    }
+    Read::Got(at + 8, eight(s, at))
 }
 
 // A constant of 12 bytes, the first eight and the last four.
 pub fn fixed96_at(s: &[u8], at: usize, first: u64, last: u64) -> Read
     ensures { λ r. ⌜ r ≡ seen none (fixed 12 (first + 2 ^ 64 * last) Fault.Field) (now (s .entry)) at ⌝ }
 {
-    if places(s, 12) <= at {
-        return Read::No(Fault::Cut, at);
+    if s.len() < at {
+        return Read::No(at, Fault::Cut);
+    }
+    if s.len() < at + 12 {
+        return Read::No(at, Fault::Cut);
     }
     if eight(s, at) != first {
-        return Read::No(Fault::Field, at);
+        return Read::No(at, Fault::Field);
     }
     if four(s, at + 8) != last {
-        return Read::No(Fault::Field, at);
+        return Read::No(at, Fault::Field);
     }
-    Read::Got(0, at + 12)
+    Read::Got(at + 12, 0)
 }

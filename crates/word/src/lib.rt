@@ -53,11 +53,11 @@ fn word_in(buf: &mut [u8], n: usize, product: Product, word: &[u8], m: u64, a: u
         return Outcome::No(Fault::Last, 0);
     }
     let r = locate::name_end(buf, a);
-    let Read::Got(_, e) = r else {
+    let Read::Got(e, _) = r else {
         return format::end_says(r);
     };
     let l = list::list_at(buf, a, product, m - 1);
-    let Read::Got(count, t) = l else {
+    let Read::Got(t, count) = l else {
         return format::end_says(l);
     };
     if 64 <= count {

@@ -31,13 +31,13 @@ fn word_start(s: &[u8], at: usize, w: u64) -> Read
     let mut p = at;
     while i < w {
         let r = text::word_at(s, p);
-        let Read::Got(_, q) = r else {
+        let Read::Got(q, _) = r else {
             return r;
         };
         p = q;
         i += 1;
     }
-    Read::Got(0, p)
+    Read::Got(p, 0)
 }
 
 // Word w of a row of words.
@@ -45,7 +45,7 @@ fn word_in(s: &[u8], at: usize, w: u64) -> View
     ensures { λ v. ⌜ Words (now (s .entry)) at w v × Inside v (length (now (s .entry))) ⌝ }
 {
     let r = word_start(s, at, w);
-    let Read::Got(_, q) = r else {
+    let Read::Got(q, _) = r else {
         return view::no_view(format::end_says(r));
     };
     let t = text::word_at(s, q);
@@ -57,7 +57,7 @@ fn list_word(s: &[u8], at: usize, w: u64) -> View
     ensures { λ v. ⌜ Where wordData (now (s .entry)) at (dataWord w at) v × Inside v (length (now (s .entry))) ⌝ }
 {
     let c = wire::u32_at(s, at);
-    let Read::Got(n, p) = c else {
+    let Read::Got(p, n) = c else {
         return view::no_view(format::end_says(c));
     };
     if n <= w {
@@ -84,7 +84,7 @@ fn element_word(s: &[u8], at: usize, product: Product, e: u64, w: u64) -> View
     ensures { λ v. ⌜ Carries product (now (s .entry)) at e (dataWord w) v × Inside v (length (now (s .entry))) ⌝ }
 {
     let r = walk::identifier_at(s, at, e);
-    let Read::Got(id, q) = r else {
+    let Read::Got(q, id) = r else {
         return view::no_view(format::end_says(r));
     };
     let row = row::row_for(product, id);
@@ -99,14 +99,14 @@ fn rule_word(s: &[u8], at: usize, product: Product, k: u64, e: u64, w: u64) -> V
     ensures { λ v. ⌜ Where (rule product k) (now (s .entry)) at (ruleWord k e w product at) v × Inside v (length (now (s .entry))) ⌝ }
 {
     let c = walk::elements_of(s, at, k);
-    let Read::Got(n, p) = c else {
+    let Read::Got(p, n) = c else {
         return view::no_view(format::end_says(c));
     };
     if n <= e {
         return View::No(Fault::Absent, 1);
     }
     let r = walk::element_start(s, p, product, e);
-    let Read::Got(_, q) = r else {
+    let Read::Got(q, _) = r else {
         return view::no_view(format::end_says(r));
     };
     element_word(s, q, product, e, w)
@@ -117,7 +117,7 @@ fn word_of(s: &[u8], product: Product, k: u64, e: u64, w: u64) -> View
     ensures { λ v. ⌜ Finds product (now (s .entry)) k (ruleWord k e w product) v × Inside v (length (now (s .entry))) ⌝ }
 {
     let r = locate::start_of(s, k);
-    let Read::Got(_, at) = r else {
+    let Read::Got(at, _) = r else {
         return view::no_view(format::end_says(r));
     };
     rule_word(s, at, product, k, e, w)

@@ -182,17 +182,17 @@ module _ (p : Product) (n m a id : ℕ) (s d : List ℕ) where
   element-none e = on-none p n m a d (addElement id s) (withMore p id s) (λ rs. refl) e
 
   module _ {e : ℕ} {z : Read} where
-    pub element-uncounted : (r : Outcome) (d′ : List ℕ) {c : Fault} {q : ℕ} → (m ≡ 0 → ⊥) → e ≡ nameEnd d a → z ≡ seen itself (number 2) d (e + 24) → z ≡ Read.No c q → MakesAs p lastOf n m a (addElement id s) d r d′
+    pub element-uncounted : (r : Outcome) (d′ : List ℕ) {c : Fault} {q : ℕ} → (m ≡ 0 → ⊥) → e ≡ nameEnd d a → z ≡ seen itself (number 2) d (e + 24) → z ≡ Read.No q c → MakesAs p lastOf n m a (addElement id s) d r d′
     unfolding edited
     element-uncounted r d′ l g f k = on-last p n m a d (addElement id s) (withMore p id s) (λ rs. refl) r d′ l g (λ rs h y w v o a′. back-no itself (number 2) d (e + 24) (count-stands n d h w o .1) f k)
 
     module _ {c q : ℕ} where
-      pub element-full : (m ≡ 0 → ⊥) → e ≡ nameEnd d a → z ≡ seen itself (number 2) d (e + 24) → z ≡ Read.Got c q → 64 ≤ c → MakesAs p lastOf n m a (addElement id s) d (Outcome.No Fault.Full 0) d
+      pub element-full : (m ≡ 0 → ⊥) → e ≡ nameEnd d a → z ≡ seen itself (number 2) d (e + 24) → z ≡ Read.Got q c → 64 ≤ c → MakesAs p lastOf n m a (addElement id s) d (Outcome.No Fault.Full 0) d
       unfolding edited
       element-full l g f k t = on-last p n m a d (addElement id s) (withMore p id s) (λ rs. refl) _ _ l g (λ rs h y w v o a′. let b = back-got itself (number 2) d (e + 24) (count-stands n d h w o .1) f k in made-no n d (full _ _ (rw (b .0) at t)))
 
       module _ {t : Read} where
-        pub element-given : {i r : Outcome} {x : Fault} {o : ℕ} → (m ≡ 0 → ⊥) → e ≡ nameEnd d a → z ≡ seen itself (number 2) d (e + 24) → z ≡ Read.Got c q → c < 64 → t ≡ told 0 none (given p id s) → t ≡ Read.No x o → i ≡ endSays t → r ≡ inGiven i → MakesAs p lastOf n m a (addElement id s) d r d
+        pub element-given : {i r : Outcome} {x : Fault} {o : ℕ} → (m ≡ 0 → ⊥) → e ≡ nameEnd d a → z ≡ seen itself (number 2) d (e + 24) → z ≡ Read.Got q c → c < 64 → t ≡ told 0 none (given p id s) → t ≡ Read.No o x → i ≡ endSays t → r ≡ inGiven i → MakesAs p lastOf n m a (addElement id s) d r d
         unfolding edited
         element-given {x = x} {o = o} l g f k j gt th ei er =
             let u = told-no 0 none (given p id s) gt th in
@@ -201,7 +201,7 @@ module _ (p : Product) (n m a id : ℕ) (s d : List ℕ) where
             let v′ = made-given n d (not-full _ _ (rw (b .0) at j) ∙ no-given _ (u .is ∙ ap (refused x) (sym (u .ends ∙ zero-add (u .o))))) in
             (c′ ∙ v′ .0, v′ .1))
 
-        pub element-done : (r : Outcome) (d′ : List ℕ) {v o : ℕ} → (m ≡ 0 → ⊥) → e ≡ nameEnd d a → z ≡ seen itself (number 2) d (e + 24) → z ≡ Read.Got c q → c < 64 → Bytes s → t ≡ told 0 none (given p id s) → t ≡ Read.Got v o → Grows n m e c id s d r d′ → MakesAs p lastOf n m a (addElement id s) d r d′
+        pub element-done : (r : Outcome) (d′ : List ℕ) {v o : ℕ} → (m ≡ 0 → ⊥) → e ≡ nameEnd d a → z ≡ seen itself (number 2) d (e + 24) → z ≡ Read.Got q c → c < 64 → Bytes s → t ≡ told 0 none (given p id s) → t ≡ Read.Got o v → Grows n m e c id s d r d′ → MakesAs p lastOf n m a (addElement id s) d r d′
         unfolding Grows laterBytes edited
         element-done r d′ l g f k j bs gt th w′ =
             let u = told-got 0 none (given p id s) gt th in

@@ -219,14 +219,14 @@ module _ (p : Product) (n m : ℕ) (name : List ℕ) (f : Fields) (id : ℕ) (s 
   rule-text a e rs o w em ea = made-no n d (no-text name _ e)
 
   module _ {t : Read} where
-    pub rule-given : (a : ℕ) {i r : Outcome} {c : Fault} {q : ℕ} → isText name ≡ true → t ≡ told 0 none (given p id s) → t ≡ Read.No c q → i ≡ endSays t → r ≡ inGiven i → MakesAs p lastOf n m a (addRule name f id s) d r d
+    pub rule-given : (a : ℕ) {i r : Outcome} {c : Fault} {q : ℕ} → isText name ≡ true → t ≡ told 0 none (given p id s) → t ≡ Read.No q c → i ≡ endSays t → r ≡ inGiven i → MakesAs p lastOf n m a (addRule name f id s) d r d
     unfolding MakesAs edited
     rule-given a {c = c} e g h ei er rs o w em ea =
         let u = told-no 0 none (given p id s) g h in
         let y = made-given n d (if-text name _ e ∙ no-given _ (u .is ∙ ap (refused c) (sym (u .ends ∙ zero-add (u .o))))) in
         (er ∙ ap inGiven (ei ∙ ap endSays h) ∙ y .0, y .1)
 
-    pub rule-done : (r : Outcome) (d′ : List ℕ) (a : ℕ) {v l : ℕ} → Bytes name → Bytes s → isText name ≡ true → t ≡ told 0 none (given p id s) → t ≡ Read.Got v l → Extends n m name f id s d r d′ → MakesAs p lastOf n m a (addRule name f id s) d r d′
+    pub rule-done : (r : Outcome) (d′ : List ℕ) (a : ℕ) {v l : ℕ} → Bytes name → Bytes s → isText name ≡ true → t ≡ told 0 none (given p id s) → t ≡ Read.Got l v → Extends n m name f id s d r d′ → MakesAs p lastOf n m a (addRule name f id s) d r d′
     unfolding MakesAs edited Extends
     rule-done r d′ a bn bs e g h x rs o w em ea =
         let u = told-got 0 none (given p id s) g h in

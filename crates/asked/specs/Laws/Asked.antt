@@ -34,13 +34,13 @@ Tells s k f v = (p : Product) → Finds p s k f v
 
 -- it is told of the rule where the code went: r is what was told of its start
 module _ {W : Type 0} (p : Product) (s : List ℕ) (k : ℕ) (f : ℕ → Rule → W) (v : W) {r : Read} where
-  pub finds : {u at : ℕ} → Reached s k k r → r ≡ Read.Got u at → Where (rule p k) s at (f at) v → Finds p s k f v
+  pub finds : {u at : ℕ} → Reached s k k r → r ≡ Read.Got at u → Where (rule p k) s at (f at) v → Finds p s k f v
   unfolding Finds Where
   finds {at = at} w i g rs o h =
       let e : at ≡ startOf rs k = reached-is s k k w p rs o (omega (arith, length-drop k rs, ap length (h .from))) i in
       g (h .r) (rw e (here-stands p s rs k h)) ∙ ap (λ (a : ℕ). f a (h .r)) e
 
-  pub finds-never : {c : Fault} {q : ℕ} → Reached s k k r → r ≡ Read.No c q → Finds p s k f v
+  pub finds-never : {c : Fault} {q : ℕ} → Reached s k k r → r ≡ Read.No q c → Finds p s k f v
   unfolding Finds
   finds-never w i rs o h = reached-never s k k w p rs o (omega (arith, length-drop k rs, ap length (h .from))) i
 

@@ -14,6 +14,7 @@ use Rattle.format.specs.Laws.Format.{end-mapped}
 use Rattle.format.specs.Laws.ReadWrite.{within-is}
 use Rattle.format.specs.Combinators.{pair, judged, via, seq, number, count, fixed, flag}
 use Rattle.text.specs.Text.{extended, stringLength, string, word}
+use Rattle.text.specs.Laws.Text.{length-most}
 use Rattle.date.specs.Date.{date}
 use Rattle.kind.specs.declared.Product.{Product}
 use Rattle.kind.specs.declared.Kind.{Kind}
@@ -35,10 +36,6 @@ wider a m n h f s b = omega (arith, f s b)
 text-length : Bounded stringLength 3
 unfolding stringLength extended
 text-length = bounded-via _ _ _ _ 3 (bounded-pair (number 1) extended 1 2 (bounded-number 1) (λ n f. bounded-pick (eqb n 255) (fixed 2 255 Fault.Form) _ 2 (bounded-fixed 2 255 Fault.Form) (wider _ 0 2 (omega arith) bounded-nothing)))
-
-length-most : (n : ℕ) → stringLength .Fit n → n ≤ 255
-unfolding stringLength via pair number
-length-most n f = let h = f .0 .0 in omega arith
 
 text : Bounded string 513
 unfolding string

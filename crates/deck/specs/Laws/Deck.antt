@@ -83,7 +83,7 @@ unfolding bytes mark value
 mark-is s at e = e
 
 -- at most 256 rules were read
-pub header-small : (s : List ℕ) {h : Read} {n m : ℕ} → Bytes s → h ≡ seen itself header s 0 → h ≡ Read.Got n m → n ≤ 256
+pub header-small : (s : List ℕ) {h : Read} {n m : ℕ} → Bytes s → h ≡ seen itself header s 0 → h ≡ Read.Got m n → n ≤ 256
 unfolding seen header count judged
 header-small s bs e k =
     let o = told-got 0 itself (header .read s) e k in
@@ -106,7 +106,7 @@ module _ (p : Product) (s : List ℕ) where
   unfolding readAs pick
   scan-of l e = rw (le-leb (length s) 60000 l, e)
 
-  scan-no : (g : List Rule → ℕ) {r : Read} {c : Fault} {q : ℕ} → length s ≤ 60000 → r ≡ seen g (deck p) s 0 → r ≡ Read.No c q → Scan.No c q ≡ scanned (readAs p s)
+  scan-no : (g : List Rule → ℕ) {r : Read} {c : Fault} {q : ℕ} → length s ≤ 60000 → r ≡ seen g (deck p) s 0 → r ≡ Read.No q c → Scan.No c q ≡ scanned (readAs p s)
   unfolding seen whole
   scan-no g {c = c} l e k =
       let o = told-no 0 g (deck p .read s) e k in
@@ -118,20 +118,20 @@ module _ (p : Product) (s : List ℕ) where
 
   -- h is what the header was read as, r the rules behind it
   module _ {h : Read} where
-    pub scan-header : {o : Outcome} {x : Scan} {c : Fault} {q : ℕ} → length s ≤ 60000 → h ≡ seen itself header s 0 → h ≡ Read.No c q → o ≡ endSays h → x ≡ noScan o → x ≡ scanned (readAs p s)
+    pub scan-header : {o : Outcome} {x : Scan} {c : Fault} {q : ℕ} → length s ≤ 60000 → h ≡ seen itself header s 0 → h ≡ Read.No q c → o ≡ endSays h → x ≡ noScan o → x ≡ scanned (readAs p s)
     unfolding deck
     scan-header l e k u v = scan-hands k u v ∙ scan-no length l (counted-is length header (each (rule p) 0) _ s 0 (pair-stop _ header _ s 0 itself e k)) k
 
     module _ {r : Read} {n m : ℕ} where
-      totals : h ≡ seen itself header s 0 → h ≡ Read.Got n m → r ≡ seen (total elementsIn) (each (rule p) 0 n) s m → r ≡ seen (total elementsIn) (deck p) s 0
+      totals : h ≡ seen itself header s 0 → h ≡ Read.Got m n → r ≡ seen (total elementsIn) (each (rule p) 0 n) s m → r ≡ seen (total elementsIn) (deck p) s 0
       unfolding deck
       totals e k f = counted-is (total elementsIn) header (each (rule p) 0) _ s 0 (pair-go _ header (each (rule p) 0) s 0 e k f)
 
-      pub scan-rules : {o : Outcome} {x : Scan} {c : Fault} {q : ℕ} → length s ≤ 60000 → h ≡ seen itself header s 0 → h ≡ Read.Got n m → r ≡ seen (total elementsIn) (each (rule p) 0 n) s m → r ≡ Read.No c q → o ≡ endSays r → x ≡ noScan o → x ≡ scanned (readAs p s)
+      pub scan-rules : {o : Outcome} {x : Scan} {c : Fault} {q : ℕ} → length s ≤ 60000 → h ≡ seen itself header s 0 → h ≡ Read.Got m n → r ≡ seen (total elementsIn) (each (rule p) 0 n) s m → r ≡ Read.No q c → o ≡ endSays r → x ≡ noScan o → x ≡ scanned (readAs p s)
       scan-rules l e k f o u v = scan-hands o u v ∙ scan-no (total elementsIn) l (totals e k f) o
 
       module _ {t q : ℕ} where
-        scan-got : (b : Bool) → length s ≤ 60000 → h ≡ seen itself header s 0 → h ≡ Read.Got n m → r ≡ seen (total elementsIn) (each (rule p) 0 n) s m → r ≡ Read.Got t q → eqb q (length s) ≡ b
+        scan-got : (b : Bool) → length s ≤ 60000 → h ≡ seen itself header s 0 → h ≡ Read.Got m n → r ≡ seen (total elementsIn) (each (rule p) 0 n) s m → r ≡ Read.Got q t → eqb q (length s) ≡ b
             → scanned (readAs p s) ≡ pick b (Scan.Is n t) (Scan.No Fault.Over q)
         unfolding seen whole pick
         scan-got b l e k f o w =
@@ -145,11 +145,11 @@ module _ (p : Product) (s : List ℕ) where
             go true rs d ew en et eq = rw (ew, en, et)
             go false rs d ew en et eq = rw (ew, eq)
 
-        pub scan-over : length s ≤ 60000 → h ≡ seen itself header s 0 → h ≡ Read.Got n m → r ≡ seen (total elementsIn) (each (rule p) 0 n) s m → r ≡ Read.Got t q → (q ≡ length s → ⊥) → Scan.No Fault.Over q ≡ scanned (readAs p s)
+        pub scan-over : length s ≤ 60000 → h ≡ seen itself header s 0 → h ≡ Read.Got m n → r ≡ seen (total elementsIn) (each (rule p) 0 n) s m → r ≡ Read.Got q t → (q ≡ length s → ⊥) → Scan.No Fault.Over q ≡ scanned (readAs p s)
         unfolding pick
         scan-over l e k f o w = sym (scan-got false l e k f o (ne-eqb q (length s) w))
 
-        pub scan-is : length s ≤ 60000 → h ≡ seen itself header s 0 → h ≡ Read.Got n m → r ≡ seen (total elementsIn) (each (rule p) 0 n) s m → r ≡ Read.Got t q → q ≡ length s → Scan.Is n t ≡ scanned (readAs p s)
+        pub scan-is : length s ≤ 60000 → h ≡ seen itself header s 0 → h ≡ Read.Got m n → r ≡ seen (total elementsIn) (each (rule p) 0 n) s m → r ≡ Read.Got q t → q ≡ length s → Scan.Is n t ≡ scanned (readAs p s)
         unfolding pick
         scan-is l e k f o w = sym (scan-got true l e k f o (eq-eqb q (length s) w))
 

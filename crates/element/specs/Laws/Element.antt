@@ -42,22 +42,22 @@ row-found p id f k = offered-is p (rowIn kinds id) (sym f ∙ k)
 
 -- a is what the number at a place was read as
 module _ (p : Product) (s : List ℕ) (at : ℕ) {a : Read} where
-  pub element-cut : {c : Fault} {q : ℕ} → a ≡ seen itself (number 4) s at → a ≡ Read.No c q → a ≡ seen named (element p) s at
+  pub element-cut : {c : Fault} {q : ℕ} → a ≡ seen itself (number 4) s at → a ≡ Read.No q c → a ≡ seen named (element p) s at
   unfolding element identifier
   element-cut e h = pair-stop named (identifier p) _ s at itself (judged-stop itself _ Fault.Foreign _ s at (judged-stop itself _ Fault.Unknown _ s at e h) h) h
 
   -- the number is id, and there is a row for it
-  in-table : {id m : ℕ} {k : Kind} → a ≡ seen itself (number 4) s at → a ≡ Read.Got id m → rowIn kinds id ≡ Is k
-      → Read.Got id m ≡ seen itself (judged (λ i. isRow (rowIn kinds i)) Fault.Unknown (number 4)) s at
+  in-table : {id m : ℕ} {k : Kind} → a ≡ seen itself (number 4) s at → a ≡ Read.Got m id → rowIn kinds id ≡ Is k
+      → Read.Got m id ≡ seen itself (judged (λ i. isRow (rowIn kinds i)) Fault.Unknown (number 4)) s at
   in-table e h y = judged-got itself (λ i. isRow (rowIn kinds i)) Fault.Unknown (number 4) s at e h (sym (ap isRow y)) refl
 
   -- r is its row in the product
   module _ {r : Row} {id m : ℕ} where
-    pub element-no : {c : Fault} {q : ℕ} → a ≡ seen itself (number 4) s at → a ≡ Read.Got id m → r ≡ rowOf p id → r ≡ No c q → Read.No c at ≡ seen named (element p) s at
+    pub element-no : {c : Fault} {q : ℕ} → a ≡ seen itself (number 4) s at → a ≡ Read.Got m id → r ≡ rowOf p id → r ≡ No c q → Read.No at c ≡ seen named (element p) s at
     unfolding element identifier rowOf offered
     element-no {c} {q} e h f k = pair-stop named (identifier p) _ s at itself (go (rowIn kinds id) refl) refl
       where
-        go : (w : Row) → rowIn kinds id ≡ w → Read.No c at ≡ seen itself (identifier p) s at
+        go : (w : Row) → rowIn kinds id ≡ w → Read.No at c ≡ seen itself (identifier p) s at
         go (No d o) y =
             let u : c ≡ Fault.Unknown = lacking kinds id (y ∙ sym (ap (offered p) y) ∙ sym f ∙ k) in
             rw u (judged-stop itself _ Fault.Foreign _ s at (judged-no itself (λ i. isRow (rowIn kinds i)) Fault.Unknown (number 4) s at e h (sym (ap isRow y))) refl)
@@ -66,7 +66,7 @@ module _ (p : Product) (s : List ℕ) (at : ℕ) {a : Read} where
             rw u (judged-no itself (λ i. isRow (rowOf p i)) Fault.Foreign _ s at (in-table e h y) refl (sym (ap isRow (sym f ∙ k))))
 
     -- x is what was read of the data of the kind
-    pub element-is : {x : Read} {k : Kind} → a ≡ seen itself (number 4) s at → a ≡ Read.Got id m → r ≡ rowOf p id → r ≡ Is k → x ≡ seen (λ d. id) (dataOf k) s m → x ≡ seen named (element p) s at
+    pub element-is : {x : Read} {k : Kind} → a ≡ seen itself (number 4) s at → a ≡ Read.Got m id → r ≡ rowOf p id → r ≡ Is k → x ≡ seen (λ d. id) (dataOf k) s m → x ≡ seen named (element p) s at
     unfolding element identifier
     element-is e h f k d =
         let y = row-found p id f k in
@@ -74,5 +74,5 @@ module _ (p : Product) (s : List ℕ) (at : ℕ) {a : Read} where
         (judged-got itself (λ i. isRow (rowOf p i)) Fault.Foreign _ s at (in-table e h y) refl (sym (ap isRow (sym f ∙ k))) refl) refl (rw y d)
 
 -- there is no element past the end
-pub element-past : (p : Product) (s : List ℕ) (at : ℕ) → length s < at → Read.No Fault.Cut at ≡ seen named (element p) s at
+pub element-past : (p : Product) (s : List ℕ) (at : ℕ) → length s < at → Read.No at Fault.Cut ≡ seen named (element p) s at
 element-past p s at h = element-cut p s at (number-no 4 s at (omega arith)) refl

@@ -14,30 +14,30 @@ use Rattle.format.specs.Laws.Written.{seen-back, Stands, Held}
 
 module _ {A : Type 0} (g : A → ℕ) (a : Format A) (s : List ℕ) (at : ℕ) where
   -- it is seen
-  pub stands-seen : {x : A} {u : List ℕ} → Stands a s at x u → seen g a s at ≡ Got (g x) (at + length (a .write x))
+  pub stands-seen : {x : A} {u : List ℕ} → Stands a s at x u → seen g a s at ≡ Got (at + length (a .write x)) (g x)
   stands-seen {x} {u} b = seen-back g a x s at u (b .fit) (b .is)
 
-  pub back-got : {x : A} {u : List ℕ} {r : Read} {v m : ℕ} → Stands a s at x u → r ≡ seen g a s at → r ≡ Got v m → (v ≡ g x) × (m ≡ at + length (a .write x))
-  back-got {x} {v = v} {m = m} b h k = let o : Got v m ≡ Got (g x) (at + length (a .write x)) = sym k ∙ h ∙ stands-seen b in ((cc), (cc))
+  pub back-got : {x : A} {u : List ℕ} {r : Read} {v m : ℕ} → Stands a s at x u → r ≡ seen g a s at → r ≡ Got m v → (v ≡ g x) × (m ≡ at + length (a .write x))
+  back-got {x} {v = v} {m = m} b h k = let o : Got m v ≡ Got (at + length (a .write x)) (g x) = sym k ∙ h ∙ stands-seen b in ((cc), (cc))
 
-  pub back-no : {B : Type 0} {x : A} {u : List ℕ} {r : Read} {c : Fault} {q : ℕ} → Stands a s at x u → r ≡ seen g a s at → r ≡ No c q → B
+  pub back-no : {B : Type 0} {x : A} {u : List ℕ} {r : Read} {c : Fault} {q : ℕ} → Stands a s at x u → r ≡ seen g a s at → r ≡ No q c → B
   back-no b h k = unlike (h ∙ stands-seen b) k
 
   -- what is seen fits, and ends, or is refused, within the list
-  pub seen-fits : {r : Read} {v m : ℕ} → Bytes s → r ≡ seen g a s at → r ≡ Got v m → (x : A) × (a .Fit x × (v ≡ g x))
+  pub seen-fits : {r : Read} {v m : ℕ} → Bytes s → r ≡ seen g a s at → r ≡ Got m v → (x : A) × (a .Fit x × (v ≡ g x))
   unfolding seen
   seen-fits bs e k =
       let o = told-got at g (a .read (drop at s)) e k in
       (o .x, (a .forth (drop at s) (o .x) (o .n) (bytes-drop at s bs) (o .is) .fit, o .tells))
 
-  pub seen-ends : {r : Read} {v m : ℕ} → r ≡ seen g a s at → r ≡ Got v m → m ≤ at + (length s - at)
+  pub seen-ends : {r : Read} {v m : ℕ} → r ≡ seen g a s at → r ≡ Got m v → m ≤ at + (length s - at)
   unfolding seen endOf
   seen-ends e k =
       let o = told-got at g (a .read (drop at s)) e k in
       let i : endOf (got (o .x) (o .n)) ≤ length (drop at s) = rw (o .is) at (a .inside (drop at s)) in
       omega (arith, o .ends, i, length-drop at s)
 
-  pub seen-stops : {r : Read} {c : Fault} {m : ℕ} → r ≡ seen g a s at → r ≡ No c m → m ≤ at + (length s - at)
+  pub seen-stops : {r : Read} {c : Fault} {m : ℕ} → r ≡ seen g a s at → r ≡ No m c → m ≤ at + (length s - at)
   unfolding seen endOf
   seen-stops {c = c} e k =
       let o = told-no at g (a .read (drop at s)) e k in
@@ -53,6 +53,6 @@ unfoldable pub Where : {A W : Type 0} → Format A → List ℕ → ℕ → (A �
 Where {A} a s at f v = (x : A) → Held a s at x → v ≡ f x
 
 -- none stands there
-pub where-none : {A W : Type 0} (g : A → ℕ) (a : Format A) (s : List ℕ) (at : ℕ) (f : A → W) (v : W) {r : Read} {c : Fault} {q : ℕ} → r ≡ seen g a s at → r ≡ No c q → Where a s at f v
+pub where-none : {A W : Type 0} (g : A → ℕ) (a : Format A) (s : List ℕ) (at : ℕ) (f : A → W) (v : W) {r : Read} {c : Fault} {q : ℕ} → r ≡ seen g a s at → r ≡ No q c → Where a s at f v
 unfolding Where
 where-none g a s at f v e h x b = back-no g a s at (b .1) e h

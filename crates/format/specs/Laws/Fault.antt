@@ -19,14 +19,14 @@ use Rattle.format.specs.Fault.{numberOf, codeOf, placeOf, packed}
 
 -- what a reader says: where it came to an end, or its refusal
 abbrev pub endSays : Read → Outcome
-endSays (Read.Got v n) = Done n
-endSays (Read.No c p) = No c p
+endSays (Read.Got n v) = Done n
+endSays (Read.No p c) = No c p
 
 -- and a refusal as a reader's
 abbrev pub noRead : Outcome → Read
-noRead (Done n) = Read.Got 0 n
-noRead (No c p) = Read.No c p
-noRead (Given c p) = Read.No c p
+noRead (Done n) = Read.Got n 0
+noRead (No c p) = Read.No p c
+noRead (Given c p) = Read.No p c
 
 -- "the same fault in the second deck or in given element data"
 abbrev pub inGiven : Outcome → Outcome

@@ -29,19 +29,19 @@ module _ {A : Type 0} (g : A → ℕ) (a : Format A) (s : List ℕ) (at : ℕ) {
   unfolding seen
   whole e = e ∙ ap (λ (t : List ℕ). told 0 g (a .read t)) (part-is s at)
 
-  pub part-got : {v n : ℕ} → r ≡ seen g a (part s at) 0 → r ≡ Got v n → Got v (at + n) ≡ seen g a s at
+  pub part-got : {v n : ℕ} → r ≡ seen g a (part s at) 0 → r ≡ Got n v → Got (at + n) v ≡ seen g a s at
   unfolding seen told
-  part-got {v = v} e h = let i = told-got 0 g (a .read (drop at s)) (whole e) h in rw (i .is, ← i .tells) (ap (λ (m : ℕ). Got v (at + m)) (i .ends ∙ zero-add (i .n)))
+  part-got {v = v} e h = let i = told-got 0 g (a .read (drop at s)) (whole e) h in rw (i .is, ← i .tells) (ap (λ (m : ℕ). Got (at + m) v) (i .ends ∙ zero-add (i .n)))
 
-  pub part-no : {c : Fault} {p : ℕ} → r ≡ seen g a (part s at) 0 → r ≡ No c p → No c (at + p) ≡ seen g a s at
+  pub part-no : {c : Fault} {p : ℕ} → r ≡ seen g a (part s at) 0 → r ≡ No p c → No (at + p) c ≡ seen g a s at
   unfolding seen told
-  part-no {c = c} e h = let i = told-no 0 g (a .read (drop at s)) (whole e) h in rw (i .is) (ap (λ (m : ℕ). No c (at + m)) (i .ends ∙ zero-add (i .o)))
+  part-no {c = c} e h = let i = told-no 0 g (a .read (drop at s)) (whole e) h in rw (i .is) (ap (λ (m : ℕ). No (at + m) c) (i .ends ∙ zero-add (i .o)))
 
   -- and it ends, or is refused, within the slice
-  pub part-ends : {v n : ℕ} → at ≤ length s → r ≡ seen g a (part s at) 0 → r ≡ Got v n → at + n ≤ length s
+  pub part-ends : {v n : ℕ} → at ≤ length s → r ≡ seen g a (part s at) 0 → r ≡ Got n v → at + n ≤ length s
   unfolding endOf
   part-ends l e h = let i = told-got 0 g (a .read (drop at s)) (whole e) h in omega (arith, i .ends, rw (i .is) at (a .inside (drop at s)), length-drop at s)
 
-  pub part-stops : {c : Fault} {p : ℕ} → at ≤ length s → r ≡ seen g a (part s at) 0 → r ≡ No c p → at + p ≤ length s
+  pub part-stops : {c : Fault} {p : ℕ} → at ≤ length s → r ≡ seen g a (part s at) 0 → r ≡ No p c → at + p ≤ length s
   unfolding endOf
   part-stops l e h = let i = told-no 0 g (a .read (drop at s)) (whole e) h in omega (arith, i .ends, rw (i .is) at (a .inside (drop at s)), length-drop at s)

@@ -28,15 +28,15 @@ module _ {A : Type 0} (h : List A → ℕ) (a : ℕ → Format A) (s : List ℕ)
   unfolding seen each eachRead rest-of
   next l = let e : n - i ≡ suc (n - (i + 1)) = omega arith in ap (λ (k : ℕ). told at h (eachRead a i k (drop at s))) e
 
-  row-end : n ≤ i → seen h (each a i (n - i)) s at ≡ Got (h []) at
+  row-end : n ≤ i → seen h (each a i (n - i)) s at ≡ Got at (h [])
   unfolding seen each eachRead told
   row-end l = let z : n - i ≡ 0 = omega arith in ap (λ (k : ℕ). told at h (eachRead a i k (drop at s))) z ∙ rw add-zero
 
-  row-stop : (g : A → ℕ) {r : Read} {c : Fault} {p : ℕ} → i < n → r ≡ seen g (a i) s at → r ≡ No c p → r ≡ seen h (each a i (n - i)) s at
+  row-stop : (g : A → ℕ) {r : Read} {c : Fault} {p : ℕ} → i < n → r ≡ seen g (a i) s at → r ≡ No p c → r ≡ seen h (each a i (n - i)) s at
   unfolding seen
   row-stop g l e k = on-stop h (a i .read (drop at s)) rest-of at g e k ∙ sym (next l)
 
-  row-go : (g : A → ℕ) {r : Read} {v p : ℕ} → i < n → r ≡ seen g (a i) s at → r ≡ Got v p
+  row-go : (g : A → ℕ) {r : Read} {v p : ℕ} → i < n → r ≡ seen g (a i) s at → r ≡ Got p v
       → (x : A) × ((v ≡ g x) × (seen (λ xs. h (x ∷ xs)) (each a (i + 1) (n - (i + 1))) s p ≡ seen h (each a i (n - i)) s at))
   unfolding seen each rest-of andThen
   row-go g {v = v} {p = p} l e k =
@@ -54,13 +54,13 @@ module _ {A : Type 0} (h : List A → ℕ) (a : ℕ → Format A) (s : List ℕ)
 
 -- nothing is told of the row: the set `running`
 module _ {A : Type 0} (a : ℕ → Format A) (s : List ℕ) (n i at : ℕ) {whole : Read} where
-  pub run-done : seen none (each a i (n - i)) s at ≡ whole → n ≤ i → Got 0 at ≡ whole
+  pub run-done : seen none (each a i (n - i)) s at ≡ whole → n ≤ i → Got at 0 ≡ whole
   run-done w l = sym (row-end none a s n i at l) ∙ w
 
-  pub run-stop : (g : A → ℕ) {r : Read} {c : Fault} {p : ℕ} → seen none (each a i (n - i)) s at ≡ whole → i < n → r ≡ seen g (a i) s at → r ≡ No c p → r ≡ whole
+  pub run-stop : (g : A → ℕ) {r : Read} {c : Fault} {p : ℕ} → seen none (each a i (n - i)) s at ≡ whole → i < n → r ≡ seen g (a i) s at → r ≡ No p c → r ≡ whole
   run-stop g w l e k = row-stop none a s n i at g l e k ∙ w
 
-  pub run-go : (g : A → ℕ) {r : Read} {v p : ℕ} → seen none (each a i (n - i)) s at ≡ whole → i < n → r ≡ seen g (a i) s at → r ≡ Got v p
+  pub run-go : (g : A → ℕ) {r : Read} {v p : ℕ} → seen none (each a i (n - i)) s at ≡ whole → i < n → r ≡ seen g (a i) s at → r ≡ Got p v
       → seen none (each a (i + 1) (n - (i + 1))) s p ≡ whole
   run-go g w l e k = row-go none a s n i at g l e k .1 .1 ∙ w
 
@@ -71,16 +71,16 @@ pub ruleset running = (run-start, run-stop, run-go, run-done)
 
 -- an answer that tells t more
 abbrev pub added : ℕ → Read → Read
-added t (Got v m) = Got (t + v) m
-added t (No c p) = No c p
+added t (Got m v) = Got m (t + v)
+added t (No p c) = No p c
 
 added-none : (r : Read) → added 0 r ≡ r
-added-none (Got v m) = rw zero-add
-added-none (No c p) = refl
+added-none (Got m v) = rw zero-add
+added-none (No p c) = refl
 
 added-twice : (t v : ℕ) (r : Read) → added t (added v r) ≡ added (t + v) r
-added-twice t v (Got w m) = rw add-assoc
-added-twice t v (No c p) = refl
+added-twice t v (Got m w) = rw add-assoc
+added-twice t v (No p c) = refl
 
 told-added : {A : Type 0} (p v : ℕ) (h : A → ℕ) (q : Answer A) → told p (λ x. v + h x) q ≡ added v (told p h q)
 unfolding told
@@ -88,14 +88,14 @@ told-added p v h (got x m) = refl
 told-added p v h (refused c o) = refl
 
 module _ {A : Type 0} (g : A → ℕ) (a : ℕ → Format A) (s : List ℕ) (n i at t : ℕ) {whole : Read} where
-  pub sum-done : added t (seen (total g) (each a i (n - i)) s at) ≡ whole → n ≤ i → Got t at ≡ whole
+  pub sum-done : added t (seen (total g) (each a i (n - i)) s at) ≡ whole → n ≤ i → Got at t ≡ whole
   unfolding total
   sum-done w l = sym (ap (added t) (row-end (total g) a s n i at l) ∙ rw add-zero) ∙ w
 
-  pub sum-stop : {r : Read} {c : Fault} {p : ℕ} → added t (seen (total g) (each a i (n - i)) s at) ≡ whole → i < n → r ≡ seen g (a i) s at → r ≡ No c p → r ≡ whole
+  pub sum-stop : {r : Read} {c : Fault} {p : ℕ} → added t (seen (total g) (each a i (n - i)) s at) ≡ whole → i < n → r ≡ seen g (a i) s at → r ≡ No p c → r ≡ whole
   sum-stop w l e k = k ∙ ap (added t) (sym k ∙ row-stop (total g) a s n i at g l e k) ∙ w
 
-  pub sum-go : {r : Read} {v p : ℕ} → added t (seen (total g) (each a i (n - i)) s at) ≡ whole → i < n → r ≡ seen g (a i) s at → r ≡ Got v p
+  pub sum-go : {r : Read} {v p : ℕ} → added t (seen (total g) (each a i (n - i)) s at) ≡ whole → i < n → r ≡ seen g (a i) s at → r ≡ Got p v
       → added (t + v) (seen (total g) (each a (i + 1) (n - (i + 1))) s p) ≡ whole
   unfolding seen total
   sum-go {v = v} {p = p} w l e k =
@@ -131,7 +131,7 @@ pub row-length : {A : Type 0} (a : ℕ → Format A) (i n : ℕ) (t : List ℕ) 
 unfolding each
 row-length a i n t xs m e = read-long a i n t xs m e
 
-pub row-long : {A : Type 0} (a : ℕ → Format A) (i n : ℕ) (s : List ℕ) (at : ℕ) {r : Read} {v m : ℕ} → r ≡ seen none (each a i n) s at → r ≡ Got v m → Got n m ≡ seen length (each a i n) s at
+pub row-long : {A : Type 0} (a : ℕ → Format A) (i n : ℕ) (s : List ℕ) (at : ℕ) {r : Read} {v m : ℕ} → r ≡ seen none (each a i n) s at → r ≡ Got m v → Got m n ≡ seen length (each a i n) s at
 unfolding seen each told
 row-long a i n s at e h =
     let o = told-got at none (eachRead a i n (drop at s)) e h in
@@ -183,10 +183,10 @@ module _ (k : ℕ) where
       ]
 
   module _ (s : List ℕ) (p n : ℕ) where
-    pub number-row : k * n ≤ length s - p → Got n (p + k * n) ≡ seen length (each (λ i. number k) 0 n) s p
+    pub number-row : k * n ≤ length s - p → Got (p + k * n) n ≡ seen length (each (λ i. number k) 0 n) s p
     unfolding seen each told
     number-row h = let r = row-there 0 n (drop p s) (omega (arith, length-drop p s)) in rw (r .is, r .long)
 
-    pub row-no : length s - p < k * n → (q : ℕ) × (No Cut q ≡ seen length (each (λ i. number k) 0 n) s p)
+    pub row-no : length s - p < k * n → (q : ℕ) × (No q Cut ≡ seen length (each (λ i. number k) 0 n) s p)
     unfolding seen each told
     row-no h = let r = row-cut 0 n (drop p s) (omega (arith, length-drop p s)) in (p + r .place, rw (r .is))

@@ -22,35 +22,35 @@ right-size : (p z q j : ℕ) (t : Bool) → q ≡ p + j → t ≡ eqb (p + z) q 
 right-size p z q j true e h = sym (eq-eqb z j (omega (arith, eqb-true (p + z) q (sym h))))
 right-size p z q j false e h = sym (ne-eqb z j (λ w. eqb-false (p + z) q (sym h) (omega arith)))
 
-same-pick : {t t′ : Bool} {v v′ q q′ : ℕ} (o : Read) → t ≡ t′ → v ≡ v′ → q ≡ q′ → pick t (Got v q) o ≡ pick t′ (Got v′ q′) o
+same-pick : {t t′ : Bool} {v v′ q q′ : ℕ} (o : Read) → t ≡ t′ → v ≡ v′ → q ≡ q′ → pick t (Got q v) o ≡ pick t′ (Got q′ v′) o
 same-pick o a b c = rw (a, b, c)
 
 -- r is what the size was read as, x the body behind it
 module _ {A : Type 0} (g : A → ℕ) (c : Fault) (a : Format A) (s : List ℕ) (at : ℕ) where
-  pub sized-stop : {r : Read} {d : Fault} {p : ℕ} → r ≡ seen itself (number 4) s at → r ≡ No d p → r ≡ seen g (sized c a) s at
+  pub sized-stop : {r : Read} {d : Fault} {p : ℕ} → r ≡ seen itself (number 4) s at → r ≡ No p d → r ≡ seen g (sized c a) s at
   unfolding seen sized via judged judgeOf pair pairRead measured weighed andThen mapped shift told
   sized-stop e h = let i = told-no at itself (number 4 .read (drop at s)) e h in rw (i .is, ← i .ends) h
 
-  pub sized-halt : {r x : Read} {z p o : ℕ} {d : Fault} → r ≡ seen itself (number 4) s at → r ≡ Got z p → x ≡ seen g a s p → x ≡ No d o → x ≡ seen g (sized c a) s at
+  pub sized-halt : {r x : Read} {z p o : ℕ} {d : Fault} → r ≡ seen itself (number 4) s at → r ≡ Got p z → x ≡ seen g a s p → x ≡ No o d → x ≡ seen g (sized c a) s at
   unfolding seen sized via judged judgeOf pair pairRead measured weighed andThen mapped shift told
   sized-halt {p = p} {o = o} {d = d} e h f k =
       let i = told-got at itself (number 4 .read (drop at s)) e h in
       let j = told-no p g (a .read (drop p s)) f k in
       let l : o ≡ at + (i .n + j .o) = omega (arith, i .ends, j .ends) in
-      rw (i .is, drop-drop, ← i .ends, j .is) (k ∙ ap (λ (n : ℕ). No d n) l)
+      rw (i .is, drop-drop, ← i .ends, j .is) (k ∙ ap (λ (n : ℕ). No n d) l)
 
-  judged-size : (z n j : ℕ) (y : A) (t : Bool) → pick t (Got (g y) (at + n + j)) (No c at) ≡ told at g (mapped (λ (w : ℕ × (A × ℕ)). w .1 .0) (judge c t (z, (y, j)) (n + j)))
+  judged-size : (z n j : ℕ) (y : A) (t : Bool) → pick t (Got (at + n + j) (g y)) (No at c) ≡ told at g (mapped (λ (w : ℕ × (A × ℕ)). w .1 .0) (judge c t (z, (y, j)) (n + j)))
   unfolding pick told mapped judge
   judged-size z n j y true = rw add-assoc
   judged-size z n j y false = rw add-zero
 
   whole-size : (z n j : ℕ) (y : A) → number 4 .read (drop at s) ≡ got z n → a .read (drop (at + n) s) ≡ got y j
-      → pick (eqb z j) (Got (g y) (at + n + j)) (No c at) ≡ seen g (sized c a) s at
+      → pick (eqb z j) (Got (at + n + j) (g y)) (No at c) ≡ seen g (sized c a) s at
   unfolding seen sized via judged judgeOf pair pairRead measured weighed andThen mapped shift
   whole-size z n j y e f = rw (e, drop-drop n at s, f) (judged-size z n j y (eqb z j))
 
-  sized-tested : {r x : Read} {z p v q : ℕ} (t : Bool) → r ≡ seen itself (number 4) s at → r ≡ Got z p → x ≡ seen g a s p → x ≡ Got v q → t ≡ eqb (p + z) q
-      → pick t (Got v q) (No c at) ≡ seen g (sized c a) s at
+  sized-tested : {r x : Read} {z p v q : ℕ} (t : Bool) → r ≡ seen itself (number 4) s at → r ≡ Got p z → x ≡ seen g a s p → x ≡ Got q v → t ≡ eqb (p + z) q
+      → pick t (Got q v) (No at c) ≡ seen g (sized c a) s at
   unfolding seen
   sized-tested {z = z} {p = p} {v = v} {q = q} t e h f k b =
       let i = told-got at itself (number 4 .read (drop at s)) e h in
@@ -58,15 +58,15 @@ module _ {A : Type 0} (g : A → ℕ) (c : Fault) (a : Format A) (s : List ℕ) 
       let eb : a .read (drop (at + i .n) s) ≡ got (j .x) (j .n) = ap (λ (o : ℕ). a .read (drop o s)) (sym (i .ends)) ∙ j .is in
       let eq : q ≡ at + i .n + j .n = omega (arith, i .ends, j .ends) in
       let ez : number 4 .read (drop at s) ≡ got z (i .n) = i .is ∙ ap (λ (o : ℕ). got o (i .n)) (sym (i .tells)) in
-      same-pick (No c at) (right-size p z q (j .n) t (j .ends) b) (j .tells) eq ∙ whole-size z (i .n) (j .n) (j .x) ez eb
+      same-pick (No at c) (right-size p z q (j .n) t (j .ends) b) (j .tells) eq ∙ whole-size z (i .n) (j .n) (j .x) ez eb
 
-  pub sized-is : {r x out : Read} {z p v q : ℕ} {t : Bool} → r ≡ seen itself (number 4) s at → r ≡ Got z p → x ≡ seen g a s p → x ≡ Got v q → t ≡ eqb (p + z) q → t ≡ true
-      → out ≡ Got v q → out ≡ seen g (sized c a) s at
+  pub sized-is : {r x out : Read} {z p v q : ℕ} {t : Bool} → r ≡ seen itself (number 4) s at → r ≡ Got p z → x ≡ seen g a s p → x ≡ Got q v → t ≡ eqb (p + z) q → t ≡ true
+      → out ≡ Got q v → out ≡ seen g (sized c a) s at
   unfolding pick
   sized-is {t = t} e h f k b y o = o ∙ (rw y at (sized-tested t e h f k b))
 
-  pub sized-no : {r x : Read} {z p v q : ℕ} {t : Bool} → r ≡ seen itself (number 4) s at → r ≡ Got z p → x ≡ seen g a s p → x ≡ Got v q → t ≡ eqb (p + z) q → t ≡ false
-      → No c at ≡ seen g (sized c a) s at
+  pub sized-no : {r x : Read} {z p v q : ℕ} {t : Bool} → r ≡ seen itself (number 4) s at → r ≡ Got p z → x ≡ seen g a s p → x ≡ Got q v → t ≡ eqb (p + z) q → t ≡ false
+      → No at c ≡ seen g (sized c a) s at
   unfolding pick
   sized-no {t = t} e h f k b y = rw y at (sized-tested t e h f k b)
 

@@ -11,7 +11,7 @@ use Rattle.format.specs.declared.Read.{Read}
 use Rattle.format.specs.declared.Read.the-variants.{Got, No}
 use Rattle.format.specs.Format.{Format}
 use Rattle.format.specs.ReadWrite.{eachWrite, AllFit}
-use Rattle.format.specs.Laws.Seen.{seen, unlike}
+use Rattle.format.specs.Laws.Seen.{seen, unlike, got-at}
 use Rattle.format.specs.Laws.Written.{behind, Row, Stands, first}
 use Rattle.format.specs.Laws.Back.{Where, back-got, back-no}
 use Rattle.format.specs.Row.{startIn}
@@ -76,28 +76,28 @@ nth a s from k at xs t e row l =
 
 -- whatever row of k values or more stands from a place on, r tells where its value i starts
 unfoldable pub Skipped : {A : Type 0} → (ℕ → Format A) → List ℕ → ℕ → ℕ → ℕ → Read → Type 0
-Skipped {A} a s from k i r = (xs : List A) (t : List ℕ) → Row a s 0 from xs t → k ≤ length xs → r ≡ Got 0 (startIn a from xs i)
+Skipped {A} a s from k i r = (xs : List A) (t : List ℕ) → Row a s 0 from xs t → k ≤ length xs → r ≡ Got (startIn a from xs i) 0
 
-ends-alike : {u v m n : ℕ} → Got u m ≡ Got v n → m ≡ n
+ends-alike : {u v m n : ℕ} → Got m u ≡ Got n v → m ≡ n
 ends-alike e = cc
 
 module _ {A : Type 0} (a : ℕ → Format A) (s : List ℕ) (from k : ℕ) where
-  pub skip-start : Skipped a s from k 0 (Got 0 from)
+  pub skip-start : Skipped a s from k 0 (Got from 0)
   unfolding Skipped
-  skip-start xs t r h = ap (Got 0) (start-first a from xs)
+  skip-start xs t r h = got-at (start-first a from xs)
 
   -- of a row that stands there
   module _ (i : ℕ) {r : Read} (w : Skipped a s from k i r) (xs : List A) (t : List ℕ) (row : Row a s 0 from xs t) (l : k ≤ length xs) where
-    pub skip-is : {v at : ℕ} → r ≡ Got v at → at ≡ startIn a from xs i
+    pub skip-is : {v at : ℕ} → r ≡ Got at v → at ≡ startIn a from xs i
     unfolding Skipped
     skip-is h = ends-alike (sym h ∙ w xs t row l)
 
-    pub skip-never : {B : Type 0} {c : Fault} {q : ℕ} → r ≡ No c q → B
+    pub skip-never : {B : Type 0} {c : Fault} {q : ℕ} → r ≡ No q c → B
     unfolding Skipped
     skip-never h = unlike (w xs t row l) h
 
-  module _ (i at : ℕ) (w : Skipped a s from k i (Got 0 at)) where
-    pub skip-end : i ≤ k → k ≤ i → Skipped a s from k k (Got 0 at)
+  module _ (i at : ℕ) (w : Skipped a s from k i (Got at 0)) where
+    pub skip-end : i ≤ k → k ≤ i → Skipped a s from k k (Got at 0)
     skip-end l m = let e : i ≡ k = omega arith in rw e at w
 
     -- the value that stands there
@@ -105,18 +105,18 @@ module _ {A : Type 0} (a : ℕ → Format A) (s : List ℕ) (from k : ℕ) where
     skip-nth xs t row m l = nth a s from i at xs t (skip-is i w xs t row m refl) row (omega arith)
 
     -- q is where it ends
-    pub skip-step : (q : ℕ) → i < k → Where (a i) s at (λ x. at + length (a i .write x)) q → Skipped a s from k (i + 1) (Got 0 q)
+    pub skip-step : (q : ℕ) → i < k → Where (a i) s at (λ x. at + length (a i .write x)) q → Skipped a s from k (i + 1) (Got q 0)
     unfolding Skipped Where
     skip-step q l h xs t row m =
         let n = skip-nth xs t row m l in
-        ap (Got 0) (omega (arith, h (n .x) (n .tail, n .stands), n .starts, start-more a from i xs (n .ys) (n .x) (n .whole)))
+        got-at (omega (arith, h (n .x) (n .tail, n .stands), n .starts, start-more a from i xs (n .ys) (n .x) (n .whole)))
 
     -- as it was read
     module _ (g : A → ℕ) {r : Read} where
-      pub skip-go : {v q : ℕ} → i < k → r ≡ seen g (a i) s at → r ≡ Got v q → Skipped a s from k (i + 1) (Got 0 q)
+      pub skip-go : {v q : ℕ} → i < k → r ≡ seen g (a i) s at → r ≡ Got q v → Skipped a s from k (i + 1) (Got q 0)
       unfolding Where
       skip-go l e h = skip-step _ l (λ x b. back-got g (a i) s at (b .1) e h .1)
 
-      pub skip-stop : {c : Fault} {q : ℕ} → i < k → r ≡ seen g (a i) s at → r ≡ No c q → Skipped a s from k k r
+      pub skip-stop : {c : Fault} {q : ℕ} → i < k → r ≡ seen g (a i) s at → r ≡ No q c → Skipped a s from k k r
       unfolding Skipped
       skip-stop l e h xs t row m = back-no g (a i) s at (skip-nth xs t row m l .stands) e h

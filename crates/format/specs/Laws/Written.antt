@@ -14,7 +14,7 @@ use Rattle.format.specs.Laws.Seen.{seen, told}
 pub behind : (s : List ℕ) (at : ℕ) (u v : List ℕ) → drop at s ≡ u ++ v → drop (at + length u) s ≡ v
 behind s at u v e = sym (drop-drop (length u) at s) ∙ ap (drop (length u)) e ∙ drop-append-seam u v
 
-pub seen-back : {A : Type 0} (g : A → ℕ) (a : Format A) (x : A) (s : List ℕ) (at : ℕ) (t : List ℕ) → a .Fit x → drop at s ≡ a .write x ++ t → seen g a s at ≡ Got (g x) (at + length (a .write x))
+pub seen-back : {A : Type 0} (g : A → ℕ) (a : Format A) (x : A) (s : List ℕ) (at : ℕ) (t : List ℕ) → a .Fit x → drop at s ≡ a .write x ++ t → seen g a s at ≡ Got (at + length (a .write x)) (g x)
 unfolding seen told
 seen-back g a x s at t f e = rw (e, a .back x t f)
 

@@ -44,25 +44,25 @@ module _ (p : Product) (id : ℕ) (s : List ℕ) {row : Row} where
 
   -- r is what its data were read as
   module _ {k : Kind} {r : Read} where
-    pub given-stop : {c : Fault} {q : ℕ} → row ≡ rowOf p id → row ≡ Row.Is k → r ≡ seen none (dataOf k) s 0 → r ≡ Read.No c q → r ≡ told 0 none (given p id s)
+    pub given-stop : {c : Fault} {q : ℕ} → row ≡ rowOf p id → row ≡ Row.Is k → r ≡ seen none (dataOf k) s 0 → r ≡ Read.No q c → r ≡ told 0 none (given p id s)
     unfolding seen told mapped whole
     given-stop e h f g = let o = told-no 0 none (dataOf k .read s) f g in rw (by e h, o .is, ← o .ends) g
 
-    read : {v m : ℕ} (t : Bool) → row ≡ rowOf p id → row ≡ Row.Is k → r ≡ seen none (dataOf k) s 0 → r ≡ Read.Got v m → eqb m (length s) ≡ t → told 0 none (given p id s) ≡ pick t (Read.Got 0 m) (Read.No Fault.Over m)
+    read : {v m : ℕ} (t : Bool) → row ≡ rowOf p id → row ≡ Row.Is k → r ≡ seen none (dataOf k) s 0 → r ≡ Read.Got m v → eqb m (length s) ≡ t → told 0 none (given p id s) ≡ pick t (Read.Got m 0) (Read.No m Fault.Over)
     unfolding seen told mapped whole pick
     read {v} {m} t e h f g w =
         let o = told-got 0 none (dataOf k .read s) f g in
         let z : o .n ≡ m = sym (o .ends ∙ zero-add (o .n)) in
         ap (told 0 none) (by e h ∙ ap (λ (a : Answer Data). mapped (withData id) (whole (length s) a)) (o .is)) ∙ go t (o .x) (o .n) z (ap (λ (u : ℕ). eqb u (length s)) z ∙ w)
       where
-        go : (t : Bool) (x : Data) (n : ℕ) → n ≡ m → eqb n (length s) ≡ t → told 0 none (mapped (withData id) (pick (eqb n (length s)) (got x n) (refused Fault.Over n))) ≡ pick t (Read.Got 0 m) (Read.No Fault.Over m)
+        go : (t : Bool) (x : Data) (n : ℕ) → n ≡ m → eqb n (length s) ≡ t → told 0 none (mapped (withData id) (pick (eqb n (length s)) (got x n) (refused Fault.Over n))) ≡ pick t (Read.Got m 0) (Read.No m Fault.Over)
         go true x n z u = rw (u, zero-add, z)
         go false x n z u = rw (u, zero-add, z)
 
-    pub given-over : {v m : ℕ} → row ≡ rowOf p id → row ≡ Row.Is k → r ≡ seen none (dataOf k) s 0 → r ≡ Read.Got v m → (m ≡ length s → ⊥) → Read.No Fault.Over m ≡ told 0 none (given p id s)
+    pub given-over : {v m : ℕ} → row ≡ rowOf p id → row ≡ Row.Is k → r ≡ seen none (dataOf k) s 0 → r ≡ Read.Got m v → (m ≡ length s → ⊥) → Read.No m Fault.Over ≡ told 0 none (given p id s)
     unfolding pick
     given-over {m = m} e h f g w = sym (read false e h f g (ne-eqb m (length s) w))
 
-    pub given-is : {v m : ℕ} → row ≡ rowOf p id → row ≡ Row.Is k → r ≡ seen none (dataOf k) s 0 → r ≡ Read.Got v m → m ≡ length s → Read.Got 0 m ≡ told 0 none (given p id s)
+    pub given-is : {v m : ℕ} → row ≡ rowOf p id → row ≡ Row.Is k → r ≡ seen none (dataOf k) s 0 → r ≡ Read.Got m v → m ≡ length s → Read.Got m 0 ≡ told 0 none (given p id s)
     unfolding pick
     given-is {m = m} e h f g w = sym (read true e h f g (eq-eqb m (length s) w))

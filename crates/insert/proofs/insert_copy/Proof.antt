@@ -53,7 +53,7 @@ copy-rule-requires : tie.Need-copy-rule-requires
 copy-rule-requires c κs = copy-sizes _ _ _ _ _ _ _ _ _ _ _ _ _ _ _ _ refl refl refl (c .before .before .before .before .before .before .before .before .before .before .before .before .before .pre .0) (c .before .before .before .before .before .before .before .before .before .before .before .before .before .pre .1) (omega arith) (c .before .before .before .before .before .before .before .before .before .before .before .before .before .pre .2) (omega arith) (omega (arith, (name-got _ _ (c .before .before .before .before .before .before .before .before .name-end .ensures) (c .before .before .before .before .before .before .t .given .1)))) (omega (arith, c .before .before .before .before .head-size .ensures .0))
 
 returns-4 : tie.Need-returns-4
-returns-4 c = let t = c .before .before .before .before .before .before .before .before .before .t .given .0 .1 .0 + 20 in copies-is _ _ _ _ _ _ _ _ _ _ _ t (t + 6 + c .before .before .before .before .before .before .before .head-size .result) _ _ _ _ _ (c .before .before .copy-rule .ensures) refl refl refl (omega arith) (omega arith) (omega (arith, (name-got _ _ (c .before .before .before .before .before .before .before .before .before .before .before .name-end .ensures) (c .before .before .before .before .before .before .before .before .before .t .given .1)))) (omega (arith, c .before .before .before .before .before .before .before .head-size .ensures .0))
+returns-4 c = let t = c .before .before .before .before .before .before .before .before .before .t .given .0 .0 + 20 in copies-is _ _ _ _ _ _ _ _ _ _ _ t (t + 6 + c .before .before .before .before .before .before .before .head-size .result) _ _ _ _ _ (c .before .before .copy-rule .ensures) refl refl refl (omega arith) (omega arith) (omega (arith, (name-got _ _ (c .before .before .before .before .before .before .before .before .before .before .before .name-end .ensures) (c .before .before .before .before .before .before .before .before .before .t .given .1)))) (omega (arith, c .before .before .before .before .before .before .before .head-size .ensures .0))
 
 pub insert-copy-spec : {M : Type 1} → statement M
 insert-copy-spec =

@@ -199,7 +199,7 @@ module _ (n k m a b : ℕ) (s : List ℕ) (j q c e : ℕ) (d : List ℕ) where
       rw (le-leb k (length rs) (omega arith), z) (made-no n d refl)
 
   -- its name can be read
-  pub copies-unnamed : (r : Outcome) (z : List ℕ) {t : Read} {f : Fault} {o : ℕ} → j < q → t ≡ nameRead s c → t ≡ Read.No f o → Copies n k m a b s j q c e d r z
+  pub copies-unnamed : (r : Outcome) (z : List ℕ) {t : Read} {f : Fault} {o : ℕ} → j < q → t ≡ nameRead s c → t ≡ Read.No o f → Copies n k m a b s j q c e d r z
   unfolding Copies
   copies-unnamed r z lj f g p rs qs o w em ea eb u eq ec ee =
       let h = here p s qs j u (omega arith) in

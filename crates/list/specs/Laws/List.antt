@@ -42,47 +42,47 @@ use Rattle.plan.specs.Edit.{Plan, refuse, atList}
 
 -- the number of words of a list whose data start at a place, and where it stands; other data are no list
 abbrev pub listOf : ℕ → Data → Read
-listOf at d = ofWords (No Fault.Last 0) (λ ws. Got (length ws) at) d
+listOf at d = ofWords (No 0 Fault.Last) (λ ws. Got at (length ws)) d
 
 -- of the last element of rule k, which starts at a place
 abbrev pub lastList : Product → ℕ → ℕ → Rule → Read
-lastList p k at r = ofElement (No Fault.Last 0) listOf p k (length (r .elements) - 1) at r
+lastList p k at r = ofElement (No 0 Fault.Last) listOf p k (length (r .elements) - 1) at r
 
 -- ---- as the code finds it
 
 module _ (s : List ℕ) (at : ℕ) {z : Read} (e : z ≡ seen itself (number 4) s at) where
-  pub list-cut : (r : Read) {c : Fault} {q : ℕ} → z ≡ No c q → Where wordData s at (listOf at) r
+  pub list-cut : (r : Read) {c : Fault} {q : ℕ} → z ≡ No q c → Where wordData s at (listOf at) r
   unfolding Where
   list-cut r h x b = back-no itself (number 4) s at (list-parts s at x (b .0) (b .1) .0 .1) e h
 
-  pub list-is : {n q : ℕ} → z ≡ Got n q → Where wordData s at (listOf at) (Got n at)
+  pub list-is : {n q : ℕ} → z ≡ Got q n → Where wordData s at (listOf at) (Got at n)
   unfolding Where wordData via
-  list-is h x b = ap (λ (m : ℕ). Got m at) (back-got itself (number 4) s at (list-parts s at x (b .0) (b .1) .0 .1) e h .0) ∙ ap (listOf at) (b .1 .fit .1)
+  list-is h x b = ap (λ (m : ℕ). Got at m) (back-got itself (number 4) s at (list-parts s at x (b .0) (b .1) .0 .1) e h .0) ∙ ap (listOf at) (b .1 .fit .1)
 
-pub list-other : (k : Kind) (s : List ℕ) (at : ℕ) → Other k → Where (dataOf k) s at (listOf at) (No Fault.Last 0)
+pub list-other : (k : Kind) (s : List ℕ) (at : ℕ) → Other k → Where (dataOf k) s at (listOf at) (No 0 Fault.Last)
 unfolding Where
-list-other k s at o x b = sym (words-none (No Fault.Last 0) (λ ws. Got (length ws) at) k x (b .1 .fit) o)
+list-other k s at o x b = sym (words-none (No 0 Fault.Last) (λ ws. Got at (length ws)) k x (b .1 .fit) o)
 
 module _ (p : Product) (s : List ℕ) (at k : ℕ) (r : Read) {c : Read} (i : Elements s at k c) where
-  pub last-list-cut : {f : Fault} {q : ℕ} → c ≡ No f q → Where (rule p k) s at (lastList p k at) r
+  pub last-list-cut : {f : Fault} {q : ℕ} → c ≡ No q f → Where (rule p k) s at (lastList p k at) r
   unfolding Where
   last-list-cut h x b = elements-none p s at k x b i h
 
-  module _ {n q : ℕ} (h : c ≡ Got n q) where
+  module _ {n q : ℕ} (h : c ≡ Got q n) where
     -- never, of a rule
     pub last-list-none : n ≡ 0 → Where (rule p k) s at (lastList p k at) r
     unfolding Where
     last-list-none e x b = absurd (omega (arith, elements-are p s at k x b i h .0, rule-fits p k x (b .1 .fit) .0))
 
-    pub last-list-never : {z : Read} {f : Fault} {o : ℕ} → (n ≡ 0 → ⊥) → Skipped (placed p) s q (n - 1) (n - 1) z → z ≡ No f o → Where (rule p k) s at (lastList p k at) r
+    pub last-list-never : {z : Read} {f : Fault} {o : ℕ} → (n ≡ 0 → ⊥) → Skipped (placed p) s q (n - 1) (n - 1) z → z ≡ No o f → Where (rule p k) s at (lastList p k at) r
     unfolding Where
     last-list-never e g j x b = element-never p s at k x b i h (n - 1) _ (omega arith) g j
 
-    pub last-list-is : {z : Read} {u o : ℕ} → (n ≡ 0 → ⊥) → Skipped (placed p) s q (n - 1) (n - 1) z → z ≡ Got u o → Carries p s o (n - 1) listOf r → Where (rule p k) s at (lastList p k at) r
+    pub last-list-is : {z : Read} {u o : ℕ} → (n ≡ 0 → ⊥) → Skipped (placed p) s q (n - 1) (n - 1) z → z ≡ Got o u → Carries p s o (n - 1) listOf r → Where (rule p k) s at (lastList p k at) r
     unfolding Where
     last-list-is e g j m x b =
-        of-element p s at k x b i h (n - 1) _ (omega arith) g (No Fault.Last 0) listOf r j m
-        ∙ ap (λ (l : ℕ). ofElement (No Fault.Last 0) listOf p k (l - 1) at x) (elements-are p s at k x b i h .0)
+        of-element p s at k x b i h (n - 1) _ (omega arith) g (No 0 Fault.Last) listOf r j m
+        ∙ ap (λ (l : ℕ). ofElement (No 0 Fault.Last) listOf p k (l - 1) at x) (elements-are p s at k x b i h .0)
 
 -- ---- what it tells of the rule's elements
 
@@ -117,16 +117,16 @@ pub record EndsInList (k e : ℕ) (els : List Element) (c t : ℕ) : Type 0 wher
   pub place : e + 26 + length (headBytes k) + length (inner (take (length els - 1) els) ++ leading (length els - 1) id) ≡ t
 
 -- data that tell of words are a list's
-words-are : (at : ℕ) (r : Row) (x : Data) {c t : ℕ} → dataBy r .Fit x → listOf at x ≡ Got c t → (r ≡ Row.Is Kind.WordList) × ((x ≡ words (wordsOf x)) × ((c ≡ length (wordsOf x)) × (t ≡ at)))
+words-are : (at : ℕ) (r : Row) (x : Data) {c t : ℕ} → dataBy r .Fit x → listOf at x ≡ Got t c → (r ≡ Row.Is Kind.WordList) × ((x ≡ words (wordsOf x)) × ((c ≡ length (wordsOf x)) × (t ≡ at)))
 unfolding wordData via
 words-are at (Row.Is Kind.Marker) x f h = unlike h (words-none _ _ Kind.Marker x f tt)
 words-are at (Row.Is (Kind.Simple r)) x f h = unlike h (words-none _ _ (Kind.Simple r) x f tt)
-words-are at (Row.Is Kind.WordList) x {c} {t} f h = let z : Got c t ≡ Got (length (wordsOf x)) at = sym h ∙ sym (ap (listOf at) (f .1)) in (refl, (sym (f .1), ((cc), (cc))))
+words-are at (Row.Is Kind.WordList) x {c} {t} f h = let z : Got t c ≡ Got at (length (wordsOf x)) = sym h ∙ sym (ap (listOf at) (f .1)) in (refl, (sym (f .1), ((cc), (cc))))
 words-are at (Row.Is (Kind.Size r)) x f h = unlike h (words-none _ _ (Kind.Size r) x f tt)
 words-are at (Row.Is (Kind.Dates r)) x f h = unlike h (words-none _ _ (Kind.Dates r) x f tt)
 words-are at (Row.No c q) x f h = unlike h (words-none _ _ (Kind.Simple Role.Condition) x f tt)
 
-pub ends-in-list : (p : Product) (s : List ℕ) (at k e : ℕ) (x : Rule) {c t : ℕ} → Held (rule p k) s at x → e ≡ at + 4 + length (string .write (x .name)) → lastList p k at x ≡ Got c t → EndsInList k e (x .elements) c t
+pub ends-in-list : (p : Product) (s : List ℕ) (at k e : ℕ) (x : Rule) {c t : ℕ} → Held (rule p k) s at x → e ≡ at + 4 + length (string .write (x .name)) → lastList p k at x ≡ Got t c → EndsInList k e (x .elements) c t
 unfolding startIn headBytes
 ends-in-list p s at k e x b ee h =
     let els = x .elements in
@@ -135,7 +135,7 @@ ends-in-list p s at k e x b ee h =
     let l = rule-fits p k x (b .1 .fit) .0 in
     let y = nth (placed p) s (elementsAt p k at x) j a els (b .0) refl (rule-elements p k s at x (b .0) (b .1)) (omega arith) in
     let id = y .x .0 in
-    let w = words-are (dataAt j a) (rowIn kinds id) (y .x .1) (placed-parts p j s a (y .x) (y .tail) (y .stands) .carries .fit) (sym (ap (ofFirst (No Fault.Last 0) listOf j a) (y .whole)) ∙ h) in
+    let w = words-are (dataAt j a) (rowIn kinds id) (y .x .1) (placed-parts p j s a (y .x) (y .tail) (y .stands) .carries .fit) (sym (ap (ofFirst (No 0 Fault.Last) listOf j a) (y .whole)) ∙ h) in
     let nil : y .ys ≡ [] = sym (ap (drop 1) (y .whole)) ∙ drop-drop 1 j els ∙ drop-of-length-le els {i = j + 1} (omega arith) in
     record {
       id = id;
@@ -147,10 +147,10 @@ ends-in-list p s at k e x b ee h =
     }
 
 -- other elements are none
-no-list : {c : Fault} {q : ℕ} → No Fault.Last 0 ≡ No c q → refuse Fault.Last 0 ≡ refuse c q
+no-list : {c : Fault} {q : ℕ} → No 0 Fault.Last ≡ No q c → refuse Fault.Last 0 ≡ refuse c q
 no-list {c} {q} h = let e : c ≡ Fault.Last = cc in let z : q ≡ 0 = cc in rw (e, z)
 
-pub list-none : (j at : ℕ) (xs : List Element) {c : Fault} {q : ℕ} → ofFirst (No Fault.Last 0) listOf j at xs ≡ No c q → (g : ℕ → List (List ℕ) → Plan) → atList xs g ≡ refuse c q
+pub list-none : (j at : ℕ) (xs : List Element) {c : Fault} {q : ℕ} → ofFirst (No 0 Fault.Last) listOf j at xs ≡ No q c → (g : ℕ → List (List ℕ) → Plan) → atList xs g ≡ refuse c q
 unfolding atList
 list-none j at [] h g = no-list h
 list-none j at ((id, plain) ∷ xs) h g = no-list h

@@ -6,7 +6,7 @@ use Rattle.locate.proofs.start_of.Statement.{statement}
 use Rattle.locate.proofs.start_of.Tie as tie
 
 abbrev Inv-loop : tie.InvT-loop
-Inv-loop s k i₀ p₀ i p = Reached s k i (Got 0 p) × (i ≤ k)
+Inv-loop s k i₀ p₀ i p = Reached s k i (Got p 0) × (i ≤ k)
 
 abbrev μ-loop : tie.MeasureT-loop
 μ-loop s k i₀ p₀ i p = k - i

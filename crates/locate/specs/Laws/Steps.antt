@@ -18,7 +18,7 @@ use Rattle.format.specs.Format.{Answer, got, refused, Bytes, pick}
 use Rattle.format.specs.ReadWrite.{eachWrite}
 use Rattle.format.specs.Laws.ReadWrite.{length-spelt}
 use Rattle.format.specs.Combinators.{number}
-use Rattle.format.specs.Laws.Seen.{seen, itself, unlike}
+use Rattle.format.specs.Laws.Seen.{seen, itself, unlike, got-at}
 use Rattle.format.specs.Laws.Written.{Held, Row}
 use Rattle.format.specs.Laws.Back.{Where, stands-seen, stands-room, seen-ends}
 use Rattle.format.specs.Row.{startIn}
@@ -100,22 +100,22 @@ here-at p s rs k a h e = rw e (here-stands p s rs k h)
 
 -- whatever rule stands at a place, r tells where it ends
 unfoldable pub Follows : List ℕ → ℕ → Read → Type 0
-Follows s at r = (p : Product) (i : ℕ) → Where (rule p i) s at (λ x. Got 0 (at + ruleBytes p i x)) r
+Follows s at r = (p : Product) (i : ℕ) → Where (rule p i) s at (λ x. Got (at + ruleBytes p i x) 0) r
 
 -- the name of the rule that starts at a place: behind the 4 bytes of its signature
 unfoldable pub nameRead : List ℕ → ℕ → Read
-nameRead s at = pick (leb 4 (length s - at)) (seen length string s (at + 4)) (No Fault.Cut at)
+nameRead s at = pick (leb 4 (length s - at)) (seen length string s (at + 4)) (No at Fault.Cut)
 
 -- where it ends; where no String can be read there, the place itself
 abbrev pub ended : ℕ → Read → ℕ
-ended at (Got v n) = n
-ended at (No c q) = at
+ended at (Got n v) = n
+ended at (No q c) = at
 
 unfoldable pub nameEnd : List ℕ → ℕ → ℕ
 nameEnd s at = ended at (nameRead s at)
 
 module _ (s : List ℕ) (at : ℕ) where
-  pub name-read : (p : Product) (i : ℕ) (x : Rule) → Held (rule p i) s at x → nameRead s at ≡ Got (length (x .name)) (at + 4 + length (string .write (x .name)))
+  pub name-read : (p : Product) (i : ℕ) (x : Rule) → Held (rule p i) s at x → nameRead s at ≡ Got (at + 4 + length (string .write (x .name))) (length (x .name))
   unfolding nameRead pick
   name-read p i x b =
       let y = rule-parts p i s at x (b .0) (b .1) in
@@ -130,7 +130,7 @@ module _ (s : List ℕ) (at : ℕ) where
   all-there : (p : Product) (i : ℕ) (x : Rule) → Held (rule p i) s at x → nameEnd s at + 24 + sizeOf i (x .elements) ≤ length s
   all-there p i x b = omega (arith, name-end p i x b, rule-parts p i s at x (b .0) (b .1) .ends, body-size p i (x .elements), stands-room (rule p i) s at (b .1))
 
-  pub name-past : {w : ℕ} → w ≡ length s - at → w < 4 → No Fault.Cut at ≡ nameRead s at
+  pub name-past : {w : ℕ} → w ≡ length s - at → w < 4 → No at Fault.Cut ≡ nameRead s at
   unfolding nameRead pick
   name-past {w} e h = rw (lt-leb 4 (length s - at) (omega arith))
 
@@ -142,71 +142,71 @@ module _ (s : List ℕ) (at : ℕ) where
   unfolding nameEnd nameRead pick
   name-within l = go (leb 4 (length s - at)) refl (seen length string s (at + 4)) refl
     where
-      go : (b : Bool) → leb 4 (length s - at) ≡ b → (t : Read) → seen length string s (at + 4) ≡ t → ended at (pick b t (No Fault.Cut at)) ≤ length s
-      go true e (Got v n) f = omega (arith, leb-true 4 (length s - at) e, seen-ends length string s (at + 4) refl f)
-      go true e (No c q) f = l
+      go : (b : Bool) → leb 4 (length s - at) ≡ b → (t : Read) → seen length string s (at + 4) ≡ t → ended at (pick b t (No at Fault.Cut)) ≤ length s
+      go true e (Got n v) f = omega (arith, leb-true 4 (length s - at) e, seen-ends length string s (at + 4) refl f)
+      go true e (No q c) f = l
       go false e t f = l
 
   -- t is what the name was read as
   module _ {t : Read} (f : t ≡ nameRead s at) where
-    pub name-got : {u m : ℕ} → t ≡ Got u m → m ≡ nameEnd s at
+    pub name-got : {u m : ℕ} → t ≡ Got m u → m ≡ nameEnd s at
     unfolding nameEnd
     name-got h = ap (ended at) (sym h ∙ f)
 
-    pub name-never : {B : Type 0} {c : Fault} {q : ℕ} → t ≡ No c q → (p : Product) (i : ℕ) (x : Rule) → Held (rule p i) s at x → B
+    pub name-never : {B : Type 0} {c : Fault} {q : ℕ} → t ≡ No q c → (p : Product) (i : ℕ) (x : Rule) → Held (rule p i) s at x → B
     name-never h p i x b = unlike (f ∙ name-read p i x b) h
 
   -- m is where the name ends, z what Data Size was read as
   module _ {m : ℕ} {z : Read} where
-    pub size-read : (p : Product) (i : ℕ) (x : Rule) → Held (rule p i) s at x → m ≡ nameEnd s at → z ≡ seen itself (number 4) s (m + 20) → z ≡ Got (sizeOf i (x .elements)) (m + 20 + 4)
+    pub size-read : (p : Product) (i : ℕ) (x : Rule) → Held (rule p i) s at x → m ≡ nameEnd s at → z ≡ seen itself (number 4) s (m + 20) → z ≡ Got (m + 20 + 4) (sizeOf i (x .elements))
     unfolding number
     size-read p i x b e f =
         let w = e ∙ name-end p i x b in
         let y = rule-parts p i s at x (b .0) (b .1) .sizes in
         rw w (rw w at f ∙ (rw (length-spelt, body-size) at (stands-seen itself (number 4) s _ (y .1))))
 
-    pub size-is : {v q : ℕ} (p : Product) (i : ℕ) (x : Rule) → Held (rule p i) s at x → m ≡ nameEnd s at → z ≡ seen itself (number 4) s (m + 20) → z ≡ Got v q → (v ≡ sizeOf i (x .elements)) × (q ≡ m + 20 + 4)
-    size-is {v} {q} p i x b e f k = let g : Got v q ≡ Got (sizeOf i (x .elements)) (m + 20 + 4) = sym k ∙ size-read p i x b e f in ((cc), (cc))
+    pub size-is : {v q : ℕ} (p : Product) (i : ℕ) (x : Rule) → Held (rule p i) s at x → m ≡ nameEnd s at → z ≡ seen itself (number 4) s (m + 20) → z ≡ Got q v → (v ≡ sizeOf i (x .elements)) × (q ≡ m + 20 + 4)
+    size-is {v} {q} p i x b e f k = let g : Got q v ≡ Got (m + 20 + 4) (sizeOf i (x .elements)) = sym k ∙ size-read p i x b e f in ((cc), (cc))
 
   module _ {t : Read} where
-    pub follows-unnamed : (r : Read) {c : Fault} {q : ℕ} → t ≡ nameRead s at → t ≡ No c q → Follows s at r
+    pub follows-unnamed : (r : Read) {c : Fault} {q : ℕ} → t ≡ nameRead s at → t ≡ No q c → Follows s at r
     unfolding Follows Where
     follows-unnamed r f h p i x b = name-never f h p i x b
 
     module _ {u m : ℕ} where
-      pub follows-short : (r : Read) {w : ℕ} → t ≡ nameRead s at → t ≡ Got u m → w ≡ length s - m → w < 20 → Follows s at r
+      pub follows-short : (r : Read) {w : ℕ} → t ≡ nameRead s at → t ≡ Got m u → w ≡ length s - m → w < 20 → Follows s at r
       unfolding Follows Where
       follows-short r f h g l p i x b = absurd (omega (arith, name-got f h, all-there p i x b))
 
       module _ {z : Read} where
-        pub follows-unsized : (r : Read) {c : Fault} {q : ℕ} → t ≡ nameRead s at → t ≡ Got u m → z ≡ seen itself (number 4) s (m + 20) → z ≡ No c q → Follows s at r
+        pub follows-unsized : (r : Read) {c : Fault} {q : ℕ} → t ≡ nameRead s at → t ≡ Got m u → z ≡ seen itself (number 4) s (m + 20) → z ≡ No q c → Follows s at r
         unfolding Follows Where
         follows-unsized r f h o k p i x b = unlike (size-read p i x b (name-got f h) o) k
 
         module _ {v q : ℕ} where
-          pub follows-cut : (r : Read) {w : ℕ} → t ≡ nameRead s at → t ≡ Got u m → z ≡ seen itself (number 4) s (m + 20) → z ≡ Got v q → w ≡ length s - q → w < v → Follows s at r
+          pub follows-cut : (r : Read) {w : ℕ} → t ≡ nameRead s at → t ≡ Got m u → z ≡ seen itself (number 4) s (m + 20) → z ≡ Got q v → w ≡ length s - q → w < v → Follows s at r
           unfolding Follows Where
           follows-cut r f h o k g l p i x b =
               let e = name-got f h in
               let d = size-is p i x b e o k in
               absurd (omega (arith, all-there p i x b, d .0, d .1, e))
 
-          pub follows-is : t ≡ nameRead s at → t ≡ Got u m → z ≡ seen itself (number 4) s (m + 20) → z ≡ Got v q → Follows s at (Got 0 (q + v))
+          pub follows-is : t ≡ nameRead s at → t ≡ Got m u → z ≡ seen itself (number 4) s (m + 20) → z ≡ Got q v → Follows s at (Got (q + v) 0)
           unfolding Follows Where
           follows-is f h o k p i x b =
               let e = name-got f h in
               let d = size-is p i x b e o k in
-              ap (Got 0) (omega (arith, rule-parts p i s at x (b .0) (b .1) .ends, body-size p i (x .elements), d .0, d .1, e, name-end p i x b))
+              got-at (omega (arith, rule-parts p i s at x (b .0) (b .1) .ends, body-size p i (x .elements), d .0, d .1, e, name-end p i x b))
 
 pub ruleset following = (follows-unnamed, follows-short, follows-unsized, follows-cut, follows-is)
 
 -- r is what was told of its end
 module _ (s : List ℕ) (at : ℕ) {r : Read} (f : Follows s at r) (p : Product) (i : ℕ) where
-  pub follows-got : {v q : ℕ} → r ≡ Got v q → Where (rule p i) s at (λ x. at + ruleBytes p i x) q
+  pub follows-got : {v q : ℕ} → r ≡ Got q v → Where (rule p i) s at (λ x. at + ruleBytes p i x) q
   unfolding Follows Where
-  follows-got {v} {q} h x b = let g : Got v q ≡ Got 0 (at + ruleBytes p i x) = sym h ∙ f p i x b in cc
+  follows-got {v} {q} h x b = let g : Got q v ≡ Got (at + ruleBytes p i x) 0 = sym h ∙ f p i x b in cc
 
-  pub follows-never : {B : Type 0} {c : Fault} {q : ℕ} → r ≡ No c q → (x : Rule) → Held (rule p i) s at x → B
+  pub follows-never : {B : Type 0} {c : Fault} {q : ℕ} → r ≡ No q c → (x : Rule) → Held (rule p i) s at x → B
   unfolding Follows Where
   follows-never h x b = unlike (f p i x b) h
 
@@ -217,30 +217,30 @@ unfoldable pub Reached : List ℕ → ℕ → ℕ → Read → Type 0
 Reached s k i r = (p : Product) → Skipped (rule p) s 7 k i r
 
 module _ (s : List ℕ) (k : ℕ) where
-  pub reached-start : Reached s k 0 (Got 0 7)
+  pub reached-start : Reached s k 0 (Got 7 0)
   unfolding Reached
   reached-start p = skip-start (rule p) s 7 k
 
   module _ (i at : ℕ) where
-    pub reached-go : {r : Read} {v q : ℕ} → Reached s k i (Got 0 at) → i < k → Follows s at r → r ≡ Got v q → Reached s k (i + 1) (Got 0 q)
+    pub reached-go : {r : Read} {v q : ℕ} → Reached s k i (Got at 0) → i < k → Follows s at r → r ≡ Got q v → Reached s k (i + 1) (Got q 0)
     unfolding Reached
     reached-go w l f h p = skip-step (rule p) s 7 k i at (w p) _ l (follows-got s at f p i h)
 
-    pub reached-stop : {r : Read} {c : Fault} {q : ℕ} → Reached s k i (Got 0 at) → i < k → Follows s at r → r ≡ No c q → Reached s k k r
+    pub reached-stop : {r : Read} {c : Fault} {q : ℕ} → Reached s k i (Got at 0) → i < k → Follows s at r → r ≡ No q c → Reached s k k r
     unfolding Reached Skipped
     reached-stop w l f h p xs t row m = let n = skip-nth (rule p) s 7 k i at (w p) xs t row m l in follows-never s at f p i h (n .x) (n .tail, n .stands)
 
-    pub reached-end : Reached s k i (Got 0 at) → i ≤ k → k ≤ i → Reached s k k (Got 0 at)
+    pub reached-end : Reached s k i (Got at 0) → i ≤ k → k ≤ i → Reached s k k (Got at 0)
     unfolding Reached
     reached-end w l m p = skip-end (rule p) s 7 k i at (w p) l m
 
   -- of a sound deck
   module _ (i : ℕ) {r : Read} (w : Reached s k i r) (p : Product) (rs : List Rule) (o : Sound p s rs) (l : k ≤ length rs) where
-    pub reached-is : {v at : ℕ} → r ≡ Got v at → at ≡ startOf rs i
+    pub reached-is : {v at : ℕ} → r ≡ Got at v → at ≡ startOf rs i
     unfolding Reached
     reached-is h = skip-is (rule p) s 7 k i (w p) rs [] (sound-row p s rs o) l h ∙ start-as p rs i
 
-    pub reached-never : {B : Type 0} {c : Fault} {q : ℕ} → r ≡ No c q → B
+    pub reached-never : {B : Type 0} {c : Fault} {q : ℕ} → r ≡ No q c → B
     unfolding Reached
     reached-never h = skip-never (rule p) s 7 k i (w p) rs [] (sound-row p s rs o) l h
 
@@ -281,19 +281,19 @@ module _ (s : List ℕ) (n k : ℕ) where
 
   -- f is what its start was told as, e its end
   module _ {f : Read} where
-    pub spots-unreached : (w : Spot) {c : Fault} {q : ℕ} → k < n → Reached s k k f → f ≡ No c q → Spots s n k w
+    pub spots-unreached : (w : Spot) {c : Fault} {q : ℕ} → k < n → Reached s k k f → f ≡ No q c → Spots s n k w
     unfolding Spots
     spots-unreached w l g h p rs m o x = reached-never s k k g p rs o (omega arith) h
 
-    module _ {u a : ℕ} (l : k < n) (g : Reached s k k f) (h : f ≡ Got u a) where
+    module _ {u a : ℕ} (l : k < n) (g : Reached s k k f) (h : f ≡ Got a u) where
       stands : (p : Product) (rs : List Rule) → Sound p s rs → n ≡ length rs → (a ≡ startOf rs k) × Here p s rs k
       stands p rs o x = (reached-is s k k g p rs o (omega arith) h, here p s rs k o (omega arith))
 
-      pub spots-unended : (w : Spot) {e : Read} {c : Fault} {q : ℕ} → Follows s a e → e ≡ No c q → Spots s n k w
+      pub spots-unended : (w : Spot) {e : Read} {c : Fault} {q : ℕ} → Follows s a e → e ≡ No q c → Spots s n k w
       unfolding Spots
       spots-unended w i j p rs m o x = let z = stands p rs o x in follows-never s a i p k j (z .1 .r) (here-at p s rs k a (z .1) (z .0))
 
-      pub spots-is : {e : Read} {v b : ℕ} → Follows s a e → e ≡ Got v b → Spots s n k (Spot.Is n a b)
+      pub spots-is : {e : Read} {v b : ℕ} → Follows s a e → e ≡ Got b v → Spots s n k (Spot.Is n a b)
       unfolding Spots Where
       spots-is {b = b} i j p rs m o x =
           let z = stands p rs o x in

@@ -18,10 +18,10 @@ use Rattle.name_view.specs.Name.{nameAt}
 
 -- r is what was told of the rule's start, t what its name was read as
 module _ (s : List ℕ) (k : ℕ) (v : View) {r : Read} where
-  pub name-unreached : {c : Fault} {q : ℕ} → Reached s k k r → r ≡ Read.No c q → Tells s k nameAt v
+  pub name-unreached : {c : Fault} {q : ℕ} → Reached s k k r → r ≡ Read.No q c → Tells s k nameAt v
   name-unreached w i p = finds-never p s k nameAt v w i
 
-  pub name-is : {u at : ℕ} {t : Read} → Reached s k k r → r ≡ Read.Got u at → t ≡ nameRead s at → v ≡ unitsOf (length s) t → Tells s k nameAt v
+  pub name-is : {u at : ℕ} {t : Read} → Reached s k k r → r ≡ Read.Got at u → t ≡ nameRead s at → v ≡ unitsOf (length s) t → Tells s k nameAt v
   unfolding Where
   name-is {at = at} w i e h p = finds p s k nameAt v w i (λ x b.
       let y = rule-parts p k s at x (b .0) (b .1) in

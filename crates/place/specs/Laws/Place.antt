@@ -201,7 +201,7 @@ module _ (n : ℕ) (d : List ℕ) {p : Product} {rs : List Rule} (h : Here p (ta
   ends-at = h .ends ∙ omega (arith, front-long (h .r), back-long 0 (h .r .elements), head-long, name-at)
 
 -- its name can be read
-pub opens-unnamed : (n m b len : ℕ) (d : List ℕ) {t : Read} {c : Fault} {q : ℕ} → t ≡ nameRead d 7 → t ≡ Read.No c q → 0 < m → Opens n 0 m 7 b len d d
+pub opens-unnamed : (n m b len : ℕ) (d : List ℕ) {t : Read} {c : Fault} {q : ℕ} → t ≡ nameRead d 7 → t ≡ Read.No q c → 0 < m → Opens n 0 m 7 b len d d
 unfolding Opens startOf startIn rules eachWrite
 opens-unnamed n m b len d f g l p rs o w em k ea eb h x r = name-there n d (here p (take n d) rs 0 o (omega arith)) f g
 

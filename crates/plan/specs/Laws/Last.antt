@@ -62,6 +62,6 @@ module _ (p : Product) (n m a : ℕ) (d : List ℕ) (e : Edit) (F : List Rule �
           rw (q rs, ek, at-last rs (m - 1) _ (h .from)) (f rs h (last-rule h (omega arith)) w em t′ a′)
 
 -- its name can be read
-pub last-unnamed : (p : Product) (n m a : ℕ) (d : List ℕ) (e : Edit) (r : Outcome) (d′ : List ℕ) {t : Read} {c : Fault} {q : ℕ} → (m ≡ 0 → ⊥) → t ≡ nameRead d a → t ≡ Read.No c q → MakesAs p lastOf n m a e d r d′
+pub last-unnamed : (p : Product) (n m a : ℕ) (d : List ℕ) (e : Edit) (r : Outcome) (d′ : List ℕ) {t : Read} {c : Fault} {q : ℕ} → (m ≡ 0 → ⊥) → t ≡ nameRead d a → t ≡ Read.No q c → MakesAs p lastOf n m a e d r d′
 unfolding MakesAs
 last-unnamed p n m a d e r d′ l f g rs o w em ea = name-there n d (here p (take n d) rs (length rs - 1) o (omega arith)) (f ∙ ap (nameRead d) ea) g

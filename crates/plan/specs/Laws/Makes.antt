@@ -47,7 +47,7 @@ module _ (n : ℕ) (d : List ℕ) {p : Product} {rs : List Rule} where
   name-ends {k} h = name-end d (startOf rs k) p k (h .r) (here-in h)
 
   -- its name can be read: t is what it was read as
-  pub name-there : {k : ℕ} {t : Read} {c : Fault} {q : ℕ} {B : Type 0} (h : Here p (take n d) rs k) → t ≡ nameRead d (startOf rs k) → t ≡ Read.No c q → B
+  pub name-there : {k : ℕ} {t : Read} {c : Fault} {q : ℕ} {B : Type 0} (h : Here p (take n d) rs k) → t ≡ nameRead d (startOf rs k) → t ≡ Read.No q c → B
   name-there {k} h f g = name-never d (startOf rs k) f g p k (h .r) (here-in h)
 
   -- it is of at most 256 rules, and at most 60,000 bytes long
@@ -58,7 +58,7 @@ module _ (n : ℕ) (d : List ℕ) {p : Product} {rs : List Rule} where
   sound-short l o = omega (arith, o .short, length-take-le n d l)
 
 -- so an edit of rule k is not refused there
-pub makes-unnamed : (edition k n m a b : ℕ) (e : Edit) (d : List ℕ) (r : Outcome) (d′ : List ℕ) {t : Read} {c : Fault} {q : ℕ} → k < m → t ≡ nameRead d a → t ≡ Read.No c q → Makes edition (λ rs. k) n m a b e d r d′
+pub makes-unnamed : (edition k n m a b : ℕ) (e : Edit) (d : List ℕ) (r : Outcome) (d′ : List ℕ) {t : Read} {c : Fault} {q : ℕ} → k < m → t ≡ nameRead d a → t ≡ Read.No q c → Makes edition (λ rs. k) n m a b e d r d′
 unfolding Makes
 makes-unnamed edition k n m a b e d r d′ l f g p rs x o w em ea eb = name-there n d (here p (take n d) rs k o (omega arith)) (f ∙ ap (nameRead d) ea) g
 

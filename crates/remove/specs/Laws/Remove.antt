@@ -177,7 +177,7 @@ second [] later later′ r r′ e f = absurd (let z : _≡_ {A = ℕ} 0 1 = cc i
 second (x ∷ rs) later later′ r r′ e f = let z : rs ≡ later = cc in sym z ∙ f
 
 -- a number that was read of four bytes
-pub size-bound : (s : List ℕ) (at : ℕ) {z : Read} {v q : ℕ} → Bytes s → z ≡ seen itself (number 4) s at → z ≡ Got v q → v < 256 ^ 4
+pub size-bound : (s : List ℕ) (at : ℕ) {z : Read} {v q : ℕ} → Bytes s → z ≡ seen itself (number 4) s at → z ≡ Got q v → v < 256 ^ 4
 unfolding number
 size-bound s at bs e h = let o = seen-fits itself (number 4) s at bs e h in rw (o .1 .1) (o .1 .0)
 
@@ -228,21 +228,21 @@ module _ (edition n k m a b e : ℕ) (d : List ℕ) where
           record { many = l; wide = omega (arith, i .0, eb); order = omega (arith, j, eb); inside = omega (arith, i .1, j); room = o .within; short = omega (arith, o .sound .short, length-take-le n d (o .within)) }
 
   -- the name of the rule behind it can be read, and its Data Size
-  pub remove-unnamed : (r : Outcome) (d′ : List ℕ) {t : Read} {c : Fault} {q : ℕ} → k ≡ 0 → 1 < m → t ≡ nameRead d b → t ≡ No c q → Makes edition (λ rs. k) n m a b (remove k) d r d′
+  pub remove-unnamed : (r : Outcome) (d′ : List ℕ) {t : Read} {c : Fault} {q : ℕ} → k ≡ 0 → 1 < m → t ≡ nameRead d b → t ≡ No q c → Makes edition (λ rs. k) n m a b (remove k) d r d′
   unfolding Makes
   remove-unnamed r d′ ek l f g p rs x o w em ea eb =
       let h = here p (take n d) rs 1 o (omega arith) in
       let eb′ : b ≡ startOf rs 1 = rw ek at eb in
       name-there n d h (f ∙ ap (nameRead d) eb′) g
 
-  pub remove-unread : (r : Outcome) (d′ : List ℕ) {z : Read} {c : Fault} {q : ℕ} → k ≡ 0 → 1 < m → e ≡ nameEnd d b → z ≡ seen itself (number 4) d (e + 20) → z ≡ No c q → Makes edition (λ rs. k) n m a b (remove k) d r d′
+  pub remove-unread : (r : Outcome) (d′ : List ℕ) {z : Read} {c : Fault} {q : ℕ} → k ≡ 0 → 1 < m → e ≡ nameEnd d b → z ≡ seen itself (number 4) d (e + 20) → z ≡ No q c → Makes edition (λ rs. k) n m a b (remove k) d r d′
   unfolding Makes
   remove-unread r d′ ek l ee ez x p rs f o w em ea eb =
       let h = here p (take n d) rs 1 o (omega arith) in
       let eb′ : b ≡ startOf rs 1 = rw ek at eb in
       unlike (size-read d b p 1 (h .r) (rw eb′ (here-in n d h)) ee ez) x
 
-  pub remove-first : {z : Read} {size q : ℕ} {x y : List ℕ} → k ≡ 0 → Second n m b e d → e ≡ nameEnd d b → z ≡ seen itself (number 4) d (e + 20) → z ≡ Got size q → x ≡ led d n b (e + 26) size → y ≡ putIn x 5 (spelt 2 (m - 1))
+  pub remove-first : {z : Read} {size q : ℕ} {x y : List ℕ} → k ≡ 0 → Second n m b e d → e ≡ nameEnd d b → z ≡ seen itself (number 4) d (e + 20) → z ≡ Got q size → x ≡ led d n b (e + 26) size → y ≡ putIn x 5 (spelt 2 (m - 1))
       → Makes edition (λ rs. k) n m a b (remove k) d (Outcome.Done (n - (b - 7) + 16)) y
   unfolding Makes edited
   remove-first {z} {size} {q} {x} {y} ek t ee ez eg ex ey p rs f o w em ea eb = rw ek (go (here p (take n d) rs 0 o (omega (arith, t .many))) (here p (take n d) rs 1 o (omega (arith, t .many))))

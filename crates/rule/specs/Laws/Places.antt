@@ -68,7 +68,7 @@ module _ (p : Product) (i : ℕ) (s : List ℕ) (at : ℕ) (xs : List Element) (
       }
 
 -- the count as it was read, and the head behind it
-pub behind-count : (p : Product) (i : ℕ) (s : List ℕ) (at : ℕ) {xs : List Element} {u : List ℕ} {c : Read} {n m : ℕ} → BodyParts p i s at xs u → c ≡ seen itself (number 2) s at → c ≡ Got n m
+pub behind-count : (p : Product) (i : ℕ) (s : List ℕ) (at : ℕ) {xs : List Element} {u : List ℕ} {c : Read} {n m : ℕ} → BodyParts p i s at xs u → c ≡ seen itself (number 2) s at → c ≡ Got m n
     → (n ≡ length xs) × ((m ≡ at + 2) × Held (head i) s m tt)
 unfolding number
 behind-count p i s at {xs = xs} {m = m} b e h =

@@ -49,10 +49,10 @@ fits-placed p j x f = go (eqb j 0) f
 
 -- what stands before the element at place j of its rule: 8001 where it is not the first
 unfoldable pub leadAt : ℕ → List ℕ → ℕ → Read
-leadAt j s at = pick (eqb j 0) (Got 0 at) (seen none separator s at)
+leadAt j s at = pick (eqb j 0) (Got at 0) (seen none separator s at)
 
 module _ (j : ℕ) (s : List ℕ) (at : ℕ) where
-  pub lead-first : j ≡ 0 → Got 0 at ≡ leadAt j s at
+  pub lead-first : j ≡ 0 → Got at 0 ≡ leadAt j s at
   unfolding leadAt pick
   lead-first e = rw (eq-eqb j 0 e)
 
@@ -61,20 +61,20 @@ module _ (j : ℕ) (s : List ℕ) (at : ℕ) where
   lead-later e h = rw (ne-eqb j 0 e) h
 
 module _ (p : Product) (j : ℕ) (s : List ℕ) (at : ℕ) {b : Read} where
-  pub lead-stop : {c : Fault} {q : ℕ} → b ≡ leadAt j s at → b ≡ No c q → b ≡ seen named (placed p j) s at
+  pub lead-stop : {c : Fault} {q : ℕ} → b ≡ leadAt j s at → b ≡ No q c → b ≡ seen named (placed p j) s at
   unfolding leadAt placed pick
   lead-stop {c} {q} e h = go (eqb j 0) e
     where
-      go : (t : Bool) → b ≡ pick t (Got 0 at) (seen none separator s at) → b ≡ seen named (pick t (element p) (separator then element p)) s at
+      go : (t : Bool) → b ≡ pick t (Got at 0) (seen none separator s at) → b ≡ seen named (pick t (element p) (separator then element p)) s at
       go true f = unlike f h
       go false f = then-stop named separator (element p) s at f h
 
-  pub lead-go : {v q : ℕ} {r : Read} → b ≡ leadAt j s at → b ≡ Got v q → r ≡ seen named (element p) s q → r ≡ seen named (placed p j) s at
+  pub lead-go : {v q : ℕ} {r : Read} → b ≡ leadAt j s at → b ≡ Got q v → r ≡ seen named (element p) s q → r ≡ seen named (placed p j) s at
   unfolding leadAt placed pick
   lead-go {v} {q} {r} e h o = go (eqb j 0) e
     where
-      go : (t : Bool) → b ≡ pick t (Got 0 at) (seen none separator s at) → r ≡ seen named (pick t (element p) (separator then element p)) s at
-      go true f = let z : Got v q ≡ Got 0 at = sym h ∙ f in let y : q ≡ at = cc in rw y at o
+      go : (t : Bool) → b ≡ pick t (Got at 0) (seen none separator s at) → r ≡ seen named (pick t (element p) (separator then element p)) s at
+      go true f = let z : Got q v ≡ Got at 0 = sym h ∙ f in let y : q ≡ at = cc in rw y at o
       go false f = then-go named separator (element p) s at f h o
 
 -- the twelve bytes of the class name as two numbers
@@ -83,7 +83,7 @@ unfolding bytes className value
 class-is s at e = e
 
 -- there is no rule past the end
-pub rule-past : (p : Product) (i : ℕ) (s : List ℕ) (at : ℕ) → length s < at → No Fault.Cut at ≡ seen elementsIn (rule p i) s at
+pub rule-past : (p : Product) (i : ℕ) (s : List ℕ) (at : ℕ) → length s < at → No at Fault.Cut ≡ seen elementsIn (rule p i) s at
 unfolding rule fields seq
 rule-past p i s at h = via-is elementsIn _ _ _ _ s at (pair-stop _ (number 4) _ s at itself (number-no 4 s at (omega arith)) refl)
 
@@ -92,5 +92,5 @@ pub rule-fits : (p : Product) (i : ℕ) (r : Rule) → rule p i .Fit r → (1 �
 unfolding rule fields fromUnknown2 fromUnknown4 body sized counted count seq via judged pair measured
 rule-fits p i r f = within-is 1 64 (elementsIn r) (f .0 .1 .1 .1 .1 .1 .1 .1 .0 .0 .1 .0 .0 .0 .1)
 
-pub rule-small : (p : Product) (i : ℕ) (s : List ℕ) (at : ℕ) {r : Read} {v m : ℕ} → Bytes s → r ≡ seen elementsIn (rule p i) s at → r ≡ Got v m → v ≤ 64
+pub rule-small : (p : Product) (i : ℕ) (s : List ℕ) (at : ℕ) {r : Read} {v m : ℕ} → Bytes s → r ≡ seen elementsIn (rule p i) s at → r ≡ Got m v → v ≤ 64
 rule-small p i s at bs e h = let o = seen-fits elementsIn (rule p i) s at bs e h in rw (o .1 .1) (rule-fits p i (o .0) (o .1 .0) .1)

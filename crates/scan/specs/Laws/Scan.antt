@@ -17,5 +17,5 @@ noScan (No c p) = Scan.No c p
 noScan (Given c p) = Scan.No c p
 
 -- a reader's refusal, handed on
-pub scan-hands : {h : Read} {o : Outcome} {x : Scan} {c : Fault} {q : ℕ} → h ≡ Read.No c q → o ≡ endSays h → x ≡ noScan o → x ≡ Scan.No c q
+pub scan-hands : {h : Read} {o : Outcome} {x : Scan} {c : Fault} {q : ℕ} → h ≡ Read.No q c → o ≡ endSays h → x ≡ noScan o → x ≡ Scan.No c q
 scan-hands k e f = f ∙ ap noScan (e ∙ ap endSays k)

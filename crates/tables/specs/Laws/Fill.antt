@@ -13,7 +13,7 @@ use Rattle.format.specs.declared.Read.{Read}
 use Rattle.format.specs.declared.Read.the-variants.{Got, No}
 use Rattle.format.specs.Format.{Format, Bytes, pick}
 use Rattle.format.specs.Combinators.{pair, judged, via, seq, _then_, number}
-use Rattle.format.specs.Laws.Seen.{seen, itself}
+use Rattle.format.specs.Laws.Seen.{seen, itself, got-at}
 use Rattle.format.specs.Row.{total, startIn}
 use Rattle.format.specs.Laws.Written.{Row}
 use Rattle.format.specs.Laws.Back.{back-got, back-no, seen-fits}
@@ -102,7 +102,7 @@ module _ {A : Type 0} (a : ℕ → Format A) (row : ℕ → ℕ → A → List �
 abbrev pub ElementsFill : Product → List ℕ → ℕ → ℕ → ℕ → ℕ → ℕ → List ℕ → List ℕ → Read → Type 0
 ElementsFill p s at base i n k t t₁ r =
     (xs : List Element) (u : List ℕ) → Row (placed p) s 0 at xs u → length xs ≡ n → k + length (elementRows p i (base + at) xs) ≤ length t
-    → (r ≡ Got n (at + elementsBytes p xs)) × (t₁ ≡ put t k (elementRows p i (base + at) xs))
+    → (r ≡ Got (at + elementsBytes p xs) n) × (t₁ ≡ put t k (elementRows p i (base + at) xs))
 
 -- of them j are stored, and the next stands at q
 abbrev pub ElementsTurn : Product → List ℕ → ℕ → ℕ → ℕ → ℕ → ℕ → List ℕ → ℕ → ℕ → List ℕ → Type 0
@@ -116,16 +116,16 @@ module _ (p : Product) (s : List ℕ) (at base i n k : ℕ) (t : List ℕ) where
   elements-start xs u w m h = (start-first (placed p) at xs, record { long = refl; room = omega arith; rest = ap (λ (z : ℕ). put t z (elementRows p i (base + at) xs)) (add-zero k) })
 
   module _ (j q : ℕ) (t₁ : List ℕ) (e : ElementsTurn p s at base i n k t j q t₁) where
-    pub elements-done : n ≤ j → ElementsFill p s at base i n k t t₁ (Got n q)
+    pub elements-done : n ≤ j → ElementsFill p s at base i n k t t₁ (Got q n)
     elements-done l xs u w m h =
         let b = e xs u w m h in
-        (ap (Got n) (b .0 ∙ start-end (placed p) at j xs (omega arith)), filling-done (b .1) (rows-done (placed p) (elementRow p i) j (base + q) xs (omega arith)))
+        (got-at (b .0 ∙ start-end (placed p) at j xs (omega arith)), filling-done (b .1) (rows-done (placed p) (elementRow p i) j (base + q) xs (omega arith)))
 
     module _ {r : Read} (l : j < n) (g : r ≡ seen named (placed p j) s q) where
-      pub elements-stop : {c : Fault} {o : ℕ} → r ≡ No c o → ElementsFill p s at base i n k t t₁ r
+      pub elements-stop : {c : Fault} {o : ℕ} → r ≡ No o c → ElementsFill p s at base i n k t t₁ r
       elements-stop f xs u w m h = back-no named (placed p j) s q (nth (placed p) s at j q xs u (e xs u w m h .0) w (omega arith) .stands) g f
 
-      pub elements-fill : {v o d : ℕ} {t₂ : List ℕ} → r ≡ Got v o → d ≡ dataAt j (base + q) → (k + elementWidth * j + 4 ≤ length t₁ → t₂ ≡ put t₁ (k + elementWidth * j) (v ∷ i ∷ d ∷ (base + o) ∷ []))
+      pub elements-fill : {v o d : ℕ} {t₂ : List ℕ} → r ≡ Got o v → d ≡ dataAt j (base + q) → (k + elementWidth * j + 4 ≤ length t₁ → t₂ ≡ put t₁ (k + elementWidth * j) (v ∷ i ∷ d ∷ (base + o) ∷ []))
           → ElementsTurn p s at base i n k t (j + 1) o t₂
       elements-fill {v} {o} {d} {t₂} f starts z xs u w m h =
           let b = e xs u w m h in
@@ -143,27 +143,27 @@ Small e = (e .start ≤ 60000) × ((e .i ≤ 256) × (e .k < 2 ^ 30))
 
 -- a number of elements below 2 ^ 16 and a place, or a refusal's place
 unfoldable pub Under : ℕ → Read → Type 0
-Under b (Got n m) = (n < 2 ^ 16) × (m ≤ b)
-Under b (No c q) = q ≤ b
+Under b (Got m n) = (n < 2 ^ 16) × (m ≤ b)
+Under b (No q c) = q ≤ b
 
-pub under-is : {b n m : ℕ} → n < 2 ^ 16 → m ≤ b → Under b (Got n m)
+pub under-is : {b n m : ℕ} → n < 2 ^ 16 → m ≤ b → Under b (Got m n)
 unfolding Under
 under-is h k = (h, k)
 
-pub under-got : {b n m : ℕ} {r : Read} → Under b r → r ≡ Got n m → (n < 2 ^ 16) × (m ≤ b)
+pub under-got : {b n m : ℕ} {r : Read} → Under b r → r ≡ Got m n → (n < 2 ^ 16) × (m ≤ b)
 unfolding Under
 under-got h e = rw e at h
 
-pub under-no : {b q : ℕ} {c : Fault} {r : Read} → r ≡ No c q → q ≤ b → Under b r
+pub under-no : {b q : ℕ} {c : Fault} {r : Read} → r ≡ No q c → q ≤ b → Under b r
 unfolding Under
 under-no e h = rw e h
 
-pub under-off : {b q : ℕ} {c : Fault} {r : Read} → Under b r → r ≡ No c q → q ≤ b
+pub under-off : {b q : ℕ} {c : Fault} {r : Read} → Under b r → r ≡ No q c → q ≤ b
 unfolding Under
 under-off h e = rw e at h
 
 -- an identifier has 32 bits
-pub identifier-small : (p : Product) (j : ℕ) (s : List ℕ) (at : ℕ) {r : Read} {v m : ℕ} → Bytes s → r ≡ seen named (placed p j) s at → r ≡ Got v m → v < 2 ^ 32
+pub identifier-small : (p : Product) (j : ℕ) (s : List ℕ) (at : ℕ) {r : Read} {v m : ℕ} → Bytes s → r ≡ seen named (placed p j) s at → r ≡ Got m v → v < 2 ^ 32
 unfolding placed pick element identifier _then_ seq via pair judged number
 identifier-small p j s at bs e h = let o = seen-fits named (placed p j) s at bs e h in rw (o .1 .1) (go (eqb j 0) (o .0) (o .1 .0))
   where
@@ -171,11 +171,11 @@ identifier-small p j s at bs e h = let o = seen-fits named (placed p j) s at bs 
     go true x f = f .0 .0 .0
     go false x f = f .0 .1 .0 .0 .0
 
-pub two-small : (s : List ℕ) (at : ℕ) {r : Read} {v m : ℕ} → Bytes s → r ≡ seen itself (number 2) s at → r ≡ Got v m → v < 2 ^ 16
+pub two-small : (s : List ℕ) (at : ℕ) {r : Read} {v m : ℕ} → Bytes s → r ≡ seen itself (number 2) s at → r ≡ Got m v → v < 2 ^ 16
 unfolding number
 two-small s at bs e h = let o = seen-fits itself (number 2) s at bs e h in rw (o .1 .1) (o .1 .0)
 
 pub under-up : {a b : ℕ} (r : Read) → Under a r → a ≤ b → Under b r
 unfolding Under
-under-up (Got n m) h l = (h .0, omega (arith, h .1))
-under-up (No c q) h l = omega arith
+under-up (Got m n) h l = (h .0, omega (arith, h .1))
+under-up (No q c) h l = omega arith

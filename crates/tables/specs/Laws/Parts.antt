@@ -9,7 +9,7 @@ use Rattle.format.specs.declared.Read.{Read}
 use Rattle.format.specs.declared.Read.the-variants.{Got, No}
 use Rattle.format.specs.ReadWrite.{eachWrite}
 use Rattle.format.specs.Combinators.{number}
-use Rattle.format.specs.Laws.Seen.{seen, itself, none, unlike}
+use Rattle.format.specs.Laws.Seen.{seen, itself, none, unlike, got-at}
 use Rattle.format.specs.Laws.Parts.{part, stands-part}
 use Rattle.format.specs.Row.{total, startIn}
 use Rattle.format.specs.Laws.Written.{Stands, Row}
@@ -31,24 +31,24 @@ use Rattle.tables.specs.Laws.Fill.{put-row, rows-long, total-one, rows-n
 abbrev pub BodyFill : Product → List ℕ → ℕ → ℕ → ℕ → ℕ → List ℕ → List ℕ → Read → Type 0
 BodyFill p s at base i k t t₁ r =
     (xs : List Element) (u : List ℕ) → Stands (body p i) s at xs u → k + length (elementRows p i (base + (at + 2 + length (head i .write tt))) xs) ≤ length t
-    → (r ≡ Got (length xs) (at + length (body p i .write xs))) × (t₁ ≡ put t k (elementRows p i (base + (at + 2 + length (head i .write tt))) xs))
+    → (r ≡ Got (at + length (body p i .write xs)) (length xs)) × (t₁ ≡ put t k (elementRows p i (base + (at + 2 + length (head i .write tt))) xs))
 
 module _ (p : Product) (s : List ℕ) (at base i k : ℕ) (t t₁ : List ℕ) {c : Read} (e : c ≡ seen itself (number 2) s at) where
-  pub body-cut : {f : Fault} {o : ℕ} → c ≡ No f o → BodyFill p s at base i k t t₁ c
+  pub body-cut : {f : Fault} {o : ℕ} → c ≡ No o f → BodyFill p s at base i k t t₁ c
   body-cut h xs u b l = back-no itself (number 2) s at (body-parts p i s at xs u b .many .1) e h
 
-  module _ {n m : ℕ} (h : c ≡ Got n m) {d : Read} (g : d ≡ seen none (head i) s m) where
-    pub body-off : {f : Fault} {o : ℕ} → d ≡ No f o → BodyFill p s at base i k t t₁ d
+  module _ {n m : ℕ} (h : c ≡ Got m n) {d : Read} (g : d ≡ seen none (head i) s m) where
+    pub body-off : {f : Fault} {o : ℕ} → d ≡ No o f → BodyFill p s at base i k t t₁ d
     body-off w xs u b l = back-no none (head i) s m (behind-count p i s at (body-parts p i s at xs u b) e h .1 .1 .1) g w
 
-    pub body-go : {v q : ℕ} {r : Read} → d ≡ Got v q → ElementsFill p s q base i n k t t₁ r → BodyFill p s at base i k t t₁ r
+    pub body-go : {v q : ℕ} {r : Read} → d ≡ Got q v → ElementsFill p s q base i n k t t₁ r → BodyFill p s at base i k t t₁ r
     body-go {q = q} {r = r} w f xs u b l =
         let y = body-parts p i s at xs u b in
         let z = behind-count p i s at y e h in
         let o : q ≡ at + 2 + length (head i .write tt) = back-got none (head i) s m (z .1 .1 .1) g w .1 ∙ ap (λ (x : ℕ). x + length (head i .write tt)) (z .1 .0) in
         let a : ElementsFill p s (at + 2 + length (head i .write tt)) base i (length xs) k t t₁ r = rw (o, z .0) at f in
         let d = a xs u (y .elements) refl l in
-        (d .0 ∙ ap (Got (length xs)) (y .ends), d .1)
+        (d .0 ∙ got-at (y .ends), d .1)
 
 -- ---- a rule
 
@@ -57,19 +57,19 @@ abbrev pub PartFill : Product → List ℕ → ℕ → ℕ → ℕ → List ℕ 
 PartFill p s base i k t t₁ e e₁ r =
     (x : Rule) (u : List ℕ) → Stands (rule p i) s 0 x u → ruleWidth * i + length (ruleRow p i base x) ≤ length t
     → k + length (ruleElementRows p i base x) ≤ length e
-    → (r ≡ Got (elementsIn x) (ruleBytes p i x)) × ((t₁ ≡ put t (ruleWidth * i) (ruleRow p i base x)) × (e₁ ≡ put e k (ruleElementRows p i base x)))
+    → (r ≡ Got (ruleBytes p i x) (elementsIn x)) × ((t₁ ≡ put t (ruleWidth * i) (ruleRow p i base x)) × (e₁ ≡ put e k (ruleElementRows p i base x)))
 
 module _ (p : Product) (s : List ℕ) (base i k : ℕ) (t t₁ e e₁ : List ℕ) where
-  pub rule-lengthless : {r : Read} {f : Fault} {o : ℕ} → r ≡ seen itself stringLength s 4 → r ≡ No f o → PartFill p s base i k t t₁ e e₁ r
+  pub rule-lengthless : {r : Read} {f : Fault} {o : ℕ} → r ≡ seen itself stringLength s 4 → r ≡ No o f → PartFill p s base i k t t₁ e e₁ r
   rule-lengthless g h x u b lt le = back-no itself stringLength s 4 (rule-parts p i s 0 x u b .lengthed .1) g h
 
   module _ {c : Read} (g : c ≡ seen length string s 4) where
-    pub rule-nameless : {f : Fault} {o : ℕ} → c ≡ No f o → PartFill p s base i k t t₁ e e₁ c
+    pub rule-nameless : {f : Fault} {o : ℕ} → c ≡ No o f → PartFill p s base i k t t₁ e e₁ c
     rule-nameless h x u b lt le = back-no length string s 4 (rule-parts p i s 0 x u b .named .1) g h
 
-    module _ {v m : ℕ} (h : c ≡ Got v m) {r : Read} (f : BodyFill p s (m + 24) base i k e e₁ r) where
+    module _ {v m : ℕ} (h : c ≡ Got m v) {r : Read} (f : BodyFill p s (m + 24) base i k e e₁ r) where
       bodied : (x : Rule) (u : List ℕ) → Stands (rule p i) s 0 x u → k + length (ruleElementRows p i base x) ≤ length e
-          → (r ≡ Got (elementsIn x) (ruleBytes p i x)) × (e₁ ≡ put e k (ruleElementRows p i base x))
+          → (r ≡ Got (ruleBytes p i x) (elementsIn x)) × (e₁ ≡ put e k (ruleElementRows p i base x))
       bodied x u b le =
           let y = rule-parts p i s 0 x u b in
           let o : m ≡ 4 + length (string .write (x .name)) = back-got length string s 4 (y .named .1) g h .1 in
@@ -77,15 +77,15 @@ module _ (p : Product) (s : List ℕ) (base i k : ℕ) (t t₁ e e₁ : List ℕ
           let v : base + (m + 24 + 2 + length (head i .write tt)) ≡ elementsAt p i base x = omega (arith, o, y .begins) in
           rw (w, v) at (f (x .elements) u (rw o (y .bodied)) (rw v le))
 
-      pub rule-bare : {d : Fault} {o : ℕ} → r ≡ No d o → PartFill p s base i k t t₁ e e₁ r
+      pub rule-bare : {d : Fault} {o : ℕ} → r ≡ No o d → PartFill p s base i k t t₁ e e₁ r
       rule-bare w x u b lt le = unlike (bodied x u b le .0) w
 
-      pub rule-go : {l : Read} {z a n q : ℕ} → l ≡ seen itself stringLength s 4 → l ≡ Got z a → r ≡ Got n q
-          → (ruleWidth * i + 4 ≤ length t → t₁ ≡ put t (ruleWidth * i) (base ∷ (base + q) ∷ (base + a) ∷ n ∷ [])) → PartFill p s base i k t t₁ e e₁ (Got n q)
+      pub rule-go : {l : Read} {z a n q : ℕ} → l ≡ seen itself stringLength s 4 → l ≡ Got a z → r ≡ Got q n
+          → (ruleWidth * i + 4 ≤ length t → t₁ ≡ put t (ruleWidth * i) (base ∷ (base + q) ∷ (base + a) ∷ n ∷ [])) → PartFill p s base i k t t₁ e e₁ (Got q n)
       rule-go {a = a} {n = n} {q = q} gl hl w st x u b lt le =
           let y = rule-parts p i s 0 x u b in
           let d = bodied x u b le in
-          let same : Got n q ≡ Got (elementsIn x) (ruleBytes p i x) = sym w ∙ d .0 in
+          let same : Got q n ≡ Got (ruleBytes p i x) (elementsIn x) = sym w ∙ d .0 in
           let ends : q ≡ ruleBytes p i x = cc in
           let units : base + a ≡ unitsAt base x = omega (arith, back-got itself stringLength s 4 (y .lengthed .1) gl hl .1) in
           (same, (put-row t _ (st lt) refl (ap (λ (z : ℕ). base + z) ends) units (cc), d .1))
@@ -95,20 +95,20 @@ abbrev pub RuleFill : Product → List ℕ → ℕ → ℕ → ℕ → List ℕ 
 RuleFill p s at i k t t₁ e e₁ r =
     (x : Rule) (u : List ℕ) → Stands (rule p i) s at x u → ruleWidth * i + length (ruleRow p i at x) ≤ length t
     → k + length (ruleElementRows p i at x) ≤ length e
-    → (r ≡ Got (elementsIn x) (at + ruleBytes p i x)) × ((t₁ ≡ put t (ruleWidth * i) (ruleRow p i at x)) × (e₁ ≡ put e k (ruleElementRows p i at x)))
+    → (r ≡ Got (at + ruleBytes p i x) (elementsIn x)) × ((t₁ ≡ put t (ruleWidth * i) (ruleRow p i at x)) × (e₁ ≡ put e k (ruleElementRows p i at x)))
 
 module _ (p : Product) (s : List ℕ) (at i k : ℕ) (t t₁ e e₁ : List ℕ) (r : Read) where
   pub rule-past : length s < at → RuleFill p s at i k t t₁ e e₁ r
   rule-past l x u b lt le = absurd (omega (arith, stands-room (rule p i) s at b, rule-parts p i s at x u b .ends))
 
   module _ {d : Read} (f : PartFill p (part s at) at i k t t₁ e e₁ d) where
-    pub rule-off : {c : Fault} {o : ℕ} → d ≡ No c o → RuleFill p s at i k t t₁ e e₁ r
+    pub rule-off : {c : Fault} {o : ℕ} → d ≡ No o c → RuleFill p s at i k t t₁ e e₁ r
     rule-off h x u b lt le = unlike (f x u (stands-part (rule p i) s at b) lt le .0) h
 
-    pub rule-in : {n o : ℕ} → d ≡ Got n o → r ≡ Got n (at + o) → RuleFill p s at i k t t₁ e e₁ r
+    pub rule-in : {n o : ℕ} → d ≡ Got o n → r ≡ Got (at + o) n → RuleFill p s at i k t t₁ e e₁ r
     rule-in {n} {o} h w x u b lt le =
         let z = f x u (stands-part (rule p i) s at b) lt le in
-        let same : Got n o ≡ Got (elementsIn x) (ruleBytes p i x) = sym h ∙ z .0 in
+        let same : Got o n ≡ Got (ruleBytes p i x) (elementsIn x) = sym h ∙ z .0 in
         let en : n ≡ elementsIn x = cc in
         let eo : o ≡ ruleBytes p i x = cc in
         (w ∙ rw (en, eo), z .1)
@@ -118,7 +118,7 @@ module _ (p : Product) (s : List ℕ) (at i k : ℕ) (t t₁ e e₁ : List ℕ) 
 abbrev pub RulesFill : Product → List ℕ → ℕ → List ℕ → List ℕ → List ℕ → List ℕ → Read → Type 0
 RulesFill p s n t t₁ e e₁ r =
     (rs : List Rule) (u : List ℕ) → Row (rule p) s 0 7 rs u → length rs ≡ n → length (ruleRows p 0 7 rs) ≤ length t → length (allElementRows p 0 7 rs) ≤ length e
-    → (r ≡ Got n (7 + length (eachWrite (rule p) 0 rs))) × ((t₁ ≡ put t 0 (ruleRows p 0 7 rs)) × (e₁ ≡ put e 0 (allElementRows p 0 7 rs)))
+    → (r ≡ Got (7 + length (eachWrite (rule p) 0 rs)) n) × ((t₁ ≡ put t 0 (ruleRows p 0 7 rs)) × (e₁ ≡ put e 0 (allElementRows p 0 7 rs)))
 
 -- i of them are stored, the next stands at q, and the elements' table is full up to k
 abbrev pub RulesTurn : Product → List ℕ → ℕ → List ℕ → List ℕ → ℕ → ℕ → ℕ → List ℕ → List ℕ → Type 0
@@ -142,29 +142,29 @@ module _ (p : Product) (s : List ℕ) (n : ℕ) (t e : List ℕ) where
   rules-start rs u w m lt le = (start-first (rule p) 7 rs, (filling-start _ t 0 (omega arith), filling-start _ e 0 (omega arith)))
 
   module _ (i q k : ℕ) (t₁ e₁ : List ℕ) (f : RulesTurn p s n t e i q k t₁ e₁) where
-    pub rules-done : n ≤ i → RulesFill p s n t t₁ e e₁ (Got n q)
+    pub rules-done : n ≤ i → RulesFill p s n t t₁ e e₁ (Got q n)
     rules-done l rs u w m lt le =
         let b = f rs u w m lt le in
-        (ap (Got n) (b .0 ∙ start-end (rule p) 7 i rs (omega arith)), (filling-done (b .1 .0) (rows-done (rule p) (ruleRow p) i q rs (omega arith)), filling-done (b .1 .1) (rows-done (rule p) (ruleElementRows p) i q rs (omega arith))))
+        (got-at (b .0 ∙ start-end (rule p) 7 i rs (omega arith)), (filling-done (b .1 .0) (rows-done (rule p) (ruleRow p) i q rs (omega arith)), filling-done (b .1 .1) (rows-done (rule p) (ruleElementRows p) i q rs (omega arith))))
 
     module _ {r : Read} {t₂ e₂ : List ℕ} (l : i < n) (g : RuleFill p s q i k t₁ t₂ e₁ e₂ r) where
       -- what is known of the next rule
       one : (rs : List Rule) {whole all : List ℕ} {len many : ℕ} (x : Nth (rule p) s 7 i q rs)
           → Filling (ruleRows p i q (drop i rs)) whole len t₁ (ruleWidth * i) → Filling (allElementRows p i q (drop i rs)) all many e₁ k
-          → (r ≡ Got (elementsIn (x .x)) (q + ruleBytes p i (x .x))) × ((t₂ ≡ put t₁ (ruleWidth * i) (ruleRow p i q (x .x))) × (e₂ ≡ put e₁ k (ruleElementRows p i q (x .x))))
+          → (r ≡ Got (q + ruleBytes p i (x .x)) (elementsIn (x .x))) × ((t₂ ≡ put t₁ (ruleWidth * i) (ruleRow p i q (x .x))) × (e₂ ≡ put e₁ k (ruleElementRows p i q (x .x))))
       one rs x ft fe = g (x .x) (x .tail) (x .stands) (filling-room (ruleRow p i q (x .x)) _ ft (rows-next (rule p) (ruleRow p) i q rs (x .whole))) (filling-room (ruleElementRows p i q (x .x)) _ fe (rows-next (rule p) (ruleElementRows p) i q rs (x .whole)))
 
-      pub rules-stop : {c : Fault} {o : ℕ} → r ≡ No c o → RulesFill p s n t t₂ e e₂ r
+      pub rules-stop : {c : Fault} {o : ℕ} → r ≡ No o c → RulesFill p s n t t₂ e e₂ r
       rules-stop h rs u w m lt le =
           let b = f rs u w m lt le in
           unlike (one rs (nth (rule p) s 7 i q rs u (b .0) w (omega arith)) (b .1 .0) (b .1 .1) .0) h
 
-      pub rules-go : {m o : ℕ} → r ≡ Got m o → RulesTurn p s n t e (i + 1) o (k + elementWidth * m) t₂ e₂
+      pub rules-go : {m o : ℕ} → r ≡ Got o m → RulesTurn p s n t e (i + 1) o (k + elementWidth * m) t₂ e₂
       rules-go {m} {o} h rs u w z lt le =
           let b = f rs u w z lt le in
           let x = nth (rule p) s 7 i q rs u (b .0) w (omega arith) in
           let d = one rs x (b .1 .0) (b .1 .1) in
-          let same : Got m o ≡ Got (elementsIn (x .x)) (q + ruleBytes p i (x .x)) = sym h ∙ d .0 in
+          let same : Got o m ≡ Got (q + ruleBytes p i (x .x)) (elementsIn (x .x)) = sym h ∙ d .0 in
           let em : m ≡ elementsIn (x .x) = cc in
           let eo : o ≡ q + ruleBytes p i (x .x) = cc in
           let y = element-rows-long p i (elementsAt p i q (x .x)) (x .x .elements) in

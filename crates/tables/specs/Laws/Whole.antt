@@ -121,13 +121,13 @@ module _ (edition : ℕ) (s : List ℕ) {d : Edition} (f : d ≡ editionOf editi
 
             -- r is what the second pass answers
             module _ (bs : Bytes s) {t₁ e₁ : List ℕ} {r : Read} (x : RulesFill p s n t t₁ e e₁ r) where
-              all : (r ≡ Read.Got n (7 + length (eachWrite (rule p) 0 (a .rs)))) × ((t₁ ≡ put t 0 (ruleRows p 0 7 (a .rs))) × (e₁ ≡ put e 0 (allElementRows p 0 7 (a .rs))))
+              all : (r ≡ Read.Got (7 + length (eachWrite (rule p) 0 (a .rs))) n) × ((t₁ ≡ put t 0 (ruleRows p 0 7 (a .rs))) × (e₁ ≡ put e 0 (allElementRows p 0 7 (a .rs))))
               all =
                   let w = read-writes-back p s (a .rs) (a .ends) bs (a .is) in
                   x (a .rs) [] (deck-row p s (a .rs) (w .fit) (w .is)) (sym (a .rules)) (omega (arith, fits .0, rule-rows-long p 7 (a .rs), a .rules)) (omega (arith, fits .1, all-rows-long p 7 (a .rs), a .elements))
 
               -- it refuses nothing
-              pub read-unlike : {k : Fault} {q : ℕ} {y : Outcome} → r ≡ Read.No k q → Promise (editionOf edition) s t t₁ e e₁ y
+              pub read-unlike : {k : Fault} {q : ℕ} {y : Outcome} → r ≡ Read.No q k → Promise (editionOf edition) s t t₁ e e₁ y
               read-unlike w = unlike (all .0) w
 
               pub read-done : Promise (editionOf edition) s t t₁ e e₁ o

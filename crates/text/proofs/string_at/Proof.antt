@@ -1,10 +1,18 @@
-use Rattle.text.specs.Laws.Text.{string-stop, string-is, string-cut}
+use native.Mathlib.Omega.{arith}
+use Rattle.format.specs.Laws.Format.{bytes-all}
+use Rattle.text.specs.Laws.Text.{string-stop, string-is, string-cut, length-few, length-ends}
 use borrow.Author.Needs.{needs}
 use Rattle.text.proofs.string_at.Statement.{statement}
 use Rattle.text.proofs.string_at.Tie as tie
 
 returns : tie.Need-returns
 returns c = search (needs, string-stop)
+
+mul-end : tie.Need-mul-end
+mul-end c = let k = length-few _ _ (bytes-all (c .before .before .before .before .before .args .s .now) (c .before .before .before .before .shared-slice-known .given)) (c .before .before .before .length-at .ensures) (c .before .l .given .1) in omega (arith, k)
+
+add-end : tie.Need-add-end
+add-end c = let k = length-few _ _ (bytes-all (c .before .before .before .before .before .args .s .now) (c .before .before .before .before .shared-slice-known .given)) (c .before .before .before .length-at .ensures) (c .before .l .given .1) in let e = length-ends _ _ (c .before .before .before .length-at .ensures) (c .before .l .given .1) in search (needs, k, e)
 
 returns-2 : tie.Need-returns-2
 returns-2 c = search (needs, string-cut)
@@ -21,8 +29,7 @@ string-at-spec =
     (λ c. search needs)
     (λ c κs. search needs)
     returns
-    (λ c κs. search needs)
+    mul-end
+    add-end
     returns-2
-    (λ c. search needs)
-    (λ c. search needs)
     returns-3)

@@ -50,5 +50,5 @@ unfolding _then_ seq
 held-then a b s at m h e = held-second a (λ u. b) s at m (held-via (pair a (λ u. b)) (λ p. p .1) (λ y. (tt, y)) _ s at h) e
 
 -- a number that was read fits
-pub seen-fit : (a : Format ℕ) (s : List ℕ) (at : ℕ) {r : Read} {v m : ℕ} → Bytes s → r ≡ seen itself a s at → r ≡ Got v m → a .Fit v
+pub seen-fit : (a : Format ℕ) (s : List ℕ) (at : ℕ) {r : Read} {v m : ℕ} → Bytes s → r ≡ seen itself a s at → r ≡ Got m v → a .Fit v
 seen-fit a s at bs e h = let o = seen-fits itself a s at bs e h in rw (o .1 .1) (o .1 .0)

@@ -42,8 +42,8 @@ use Rattle.value.specs.declared.Value.the-variants as Value
 
 -- the fault of a refused reading; of another, that bytes are left over behind it
 abbrev pub asGiven : Read → Valued
-asGiven (Got v n) = Valued.Given Fault.Over n
-asGiven (No c q) = Valued.Given c q
+asGiven (Got n v) = Valued.Given Fault.Over n
+asGiven (No q c) = Valued.Given c q
 
 -- the fault of an identifier without a row
 abbrev pub offBy : Row → Valued
@@ -57,11 +57,11 @@ Holds a s f v = Where a s 0 (λ d. Valued.Is (f d)) v
 -- ---- what a field's reader says
 
 module _ (s : List ℕ) (at : ℕ) {r : Read} {v m : ℕ} (bs : (i : ℕ) → Fits w8 (getD s i 0)) where
-  pub number-fits : (k : ℕ) → r ≡ seen itself (number k) s at → r ≡ Got v m → v < 256 ^ k
+  pub number-fits : (k : ℕ) → r ≡ seen itself (number k) s at → r ≡ Got m v → v < 256 ^ k
   unfolding number
   number-fits k e h = seen-fit (number k) s at (bytes-all s bs) e h
 
-  pub date-fits : r ≡ seen itself date s at → r ≡ Got v m → accepted v ≡ true
+  pub date-fits : r ≡ seen itself date s at → r ≡ Got m v → accepted v ≡ true
   unfolding date judged
   date-fits e h = seen-fit date s at (bytes-all s bs) e h .1
 
@@ -69,7 +69,7 @@ module _ (s : List ℕ) (at : ℕ) {r : Read} {v m : ℕ} (bs : (i : ℕ) → Fi
 
 -- a field is not there, so no data are
 pub holds-none : {B : Type 0} (g : B → ℕ) (b : Format B) (a : Format Data) (s : List ℕ) (at : ℕ) (f : Data → Value) (v : Valued) {r : Read} {c : Fault} {q : ℕ}
-    → ((d : Data) → Held a s 0 d → (y : B) × Held b s at y) → r ≡ seen g b s at → r ≡ No c q → Holds a s f v
+    → ((d : Data) → Held a s 0 d → (y : B) × Held b s at y) → r ≡ seen g b s at → r ≡ No q c → Holds a s f v
 unfolding Where
 holds-none g b a s at f v part e h d x = back-no g b s at (part d x .1 .1) e h
 
@@ -126,27 +126,27 @@ module _ (s : List ℕ) (d : Data) where
 -- ---- as the code reads them
 
 module _ (s : List ℕ) {r : Read} {v m : ℕ} where
-  number-is : (at : ℕ) {x : ℕ} → Held (number 4) s at x → r ≡ seen itself (number 4) s at → r ≡ Got v m → v ≡ x
+  number-is : (at : ℕ) {x : ℕ} → Held (number 4) s at x → r ≡ seen itself (number 4) s at → r ≡ Got m v → v ≡ x
   number-is at x e h = back-got itself (number 4) s at (x .1) e h .0
 
-  flag-is : (at : ℕ) {b : Bool} → Held flag s at b → r ≡ seen bit flag s at → r ≡ Got v m → eqb v 1 ≡ b
+  flag-is : (at : ℕ) {b : Bool} → Held flag s at b → r ≡ seen bit flag s at → r ≡ Got m v → eqb v 1 ≡ b
   flag-is at {b} x e h = ap (λ (n : ℕ). eqb n 1) (back-got bit flag s at (x .1) e h .0) ∙ eqb-bit b
 
-  date-is : (at : ℕ) {x : ℕ} → Held date s at x → r ≡ seen itself date s at → r ≡ Got v m → ofBits binary64 v ≡ ofBits binary64 x
+  date-is : (at : ℕ) {x : ℕ} → Held date s at x → r ≡ seen itself date s at → r ≡ Got m v → ofBits binary64 v ≡ ofBits binary64 x
   date-is at x e h = ap (ofBits binary64) (back-got itself date s at (x .1) e h .0)
 
 module _ (s : List ℕ) {r : Read} {v m : ℕ} where
-  pub words-are : r ≡ seen itself (number 4) s 0 → r ≡ Got v m → Holds wordData s (λ d. Value.Words (length (wordsOf d))) (Valued.Is (Value.Words v))
+  pub words-are : r ≡ seen itself (number 4) s 0 → r ≡ Got m v → Holds wordData s (λ d. Value.Words (length (wordsOf d))) (Valued.Is (Value.Words v))
   unfolding Where
   words-are e h d x = ap (λ (n : ℕ). Valued.Is (Value.Words n)) (number-is s 0 (words-number s d x) e h)
 
-  pub sizes-are : {q : Read} {w l : ℕ} → r ≡ seen itself (number 4) s 8 → r ≡ Got v m → q ≡ seen itself (number 4) s 12 → q ≡ Got w l
+  pub sizes-are : {q : Read} {w l : ℕ} → r ≡ seen itself (number 4) s 8 → r ≡ Got m v → q ≡ seen itself (number 4) s 12 → q ≡ Got l w
       → Holds sizeData s (λ d. Value.Size (sizesOf d .0) (sizesOf d .1)) (Valued.Is (Value.Size v w))
   unfolding Where
   sizes-are e h f k d x = let p = sizes-numbers s d x in ap₂ (λ (a b : ℕ). Valued.Is (Value.Size a b)) (number-is s 8 (p .0) e h) (number-is s 12 (p .1) f k)
 
-pub span-is : (s : List ℕ) {f a g b : Read} {starts after ends before i j k l : ℕ} → f ≡ seen bit flag s 8 → f ≡ Got starts i → a ≡ seen itself date s 16 → a ≡ Got after j
-    → g ≡ seen bit flag s 24 → g ≡ Got ends k → b ≡ seen itself date s 32 → b ≡ Got before l
+pub span-is : (s : List ℕ) {f a g b : Read} {starts after ends before i j k l : ℕ} → f ≡ seen bit flag s 8 → f ≡ Got i starts → a ≡ seen itself date s 16 → a ≡ Got j after
+    → g ≡ seen bit flag s 24 → g ≡ Got k ends → b ≡ seen itself date s 32 → b ≡ Got l before
     → Holds dateData s (λ d. Value.Dates (floats (spanOf d))) (Valued.Is (Value.Dates (record { starts = eqb starts 1; ends = eqb ends 1; after = ofBits binary64 after; before = ofBits binary64 before })))
 unfolding Where
 span-is s ef hf ea ha eg hg eb hb d x =
@@ -165,7 +165,7 @@ value-by k j id s out e o = rw e o
 -- ---- lone data, as the code judges them
 
 module _ (k : Kind) (id : ℕ) (s : List ℕ) {r : Read} {x : Valued} {q : ℕ} where
-  pub value-no : {c : Fault} → r ≡ seen none (dataOf k) s 0 → r ≡ No c q → x ≡ asGiven r → x ≡ fromKind k id s
+  pub value-no : {c : Fault} → r ≡ seen none (dataOf k) s 0 → r ≡ No q c → x ≡ asGiven r → x ≡ fromKind k id s
   unfolding fromKind seen whole
   value-no {c} e h o =
       let i = told-no 0 none (dataOf k .read s) e h in
@@ -173,14 +173,14 @@ module _ (k : Kind) (id : ℕ) (s : List ℕ) {r : Read} {x : Valued} {q : ℕ} 
       o ∙ ap asGiven h ∙ ap (Valued.Given c) z ∙ ap (λ (a : Answer Data). fromData k id (whole (length s) a)) (sym (i .is))
 
   module _ {v : ℕ} where
-    pub value-over : r ≡ seen none (dataOf k) s 0 → r ≡ Got v q → (q ≡ length s → ⊥) → x ≡ Valued.Given Fault.Over q → x ≡ fromKind k id s
+    pub value-over : r ≡ seen none (dataOf k) s 0 → r ≡ Got q v → (q ≡ length s → ⊥) → x ≡ Valued.Given Fault.Over q → x ≡ fromKind k id s
     unfolding fromKind seen whole pick
     value-over e h w o =
         let i = told-got 0 none (dataOf k .read s) e h in
         let z : i .n ≡ q = omega (arith, i .ends) in
         o ∙ rw (i .is, z, ne-eqb q (length s) w)
 
-    pub value-is : ((i : ℕ) → Fits w8 (getD s i 0)) → r ≡ seen none (dataOf k) s 0 → r ≡ Got v q → q ≡ length s → Holds (dataOf k) s (valueIn k id) x → x ≡ fromKind k id s
+    pub value-is : ((i : ℕ) → Fits w8 (getD s i 0)) → r ≡ seen none (dataOf k) s 0 → r ≡ Got q v → q ≡ length s → Holds (dataOf k) s (valueIn k id) x → x ≡ fromKind k id s
     unfolding fromKind seen whole pick Where
     value-is bs e h w o =
         let i = told-got 0 none (dataOf k .read s) e h in

@@ -36,15 +36,15 @@ Inside (No c q) len = Unit {0}
 
 -- the units of a String that was read, n of them that end at e, where they lie within a slice
 unfoldable pub unitsOf : ℕ → Read → View
-unitsOf len (Read.Got n e) = pick (leb e len) (pick (leb (2 * n) e) (At (e - 2 * n) (2 * n)) (No Fault.Cut 0)) (No Fault.Cut 0)
-unitsOf len (Read.No c q) = No c q
+unitsOf len (Read.Got e n) = pick (leb e len) (pick (leb (2 * n) e) (At (e - 2 * n) (2 * n)) (No Fault.Cut 0)) (No Fault.Cut 0)
+unitsOf len (Read.No q c) = No c q
 
 module _ (len : ℕ) {t : Read} where
-  pub units-none : {v : View} {c : Fault} {q : ℕ} → t ≡ Read.No c q → v ≡ No c q → v ≡ unitsOf len t
+  pub units-none : {v : View} {c : Fault} {q : ℕ} → t ≡ Read.No q c → v ≡ No c q → v ≡ unitsOf len t
   unfolding unitsOf
   units-none h i = rw h i
 
-  module _ {n e : ℕ} (h : t ≡ Read.Got n e) where
+  module _ {n e : ℕ} (h : t ≡ Read.Got e n) where
     pub units-past : len < e → No Fault.Cut 0 ≡ unitsOf len t
     unfolding unitsOf pick
     units-past l = rw (h, lt-leb e len l)
@@ -58,7 +58,7 @@ module _ (len : ℕ) {t : Read} where
     units-are k l = rw (h, le-leb e len k, le-leb (2 * n) e l)
 
   -- the units of a String that starts at q
-  pub units-of : {v : View} (q : ℕ) (us : List ℕ) → v ≡ unitsOf len t → t ≡ Read.Got (length us) (q + length (string .write us)) → q + length (string .write us) ≤ len
+  pub units-of : {v : View} (q : ℕ) (us : List ℕ) → v ≡ unitsOf len t → t ≡ Read.Got (q + length (string .write us)) (length us) → q + length (string .write us) ≤ len
       → v ≡ At (q + length (stringLength .write (length us))) (2 * length us)
   units-of q us w e l =
       let m = string-length us in
@@ -67,13 +67,13 @@ module _ (len : ℕ) {t : Read} where
 
 pub units-inside : (len : ℕ) (t : Read) {v : View} → v ≡ unitsOf len t → Inside v len
 unfolding unitsOf pick
-units-inside len (Read.Got n e) w = rw w (go (leb e len) refl (leb (2 * n) e) refl)
+units-inside len (Read.Got e n) w = rw w (go (leb e len) refl (leb (2 * n) e) refl)
   where
     go : (x : Bool) → leb e len ≡ x → (y : Bool) → leb (2 * n) e ≡ y → Inside (pick x (pick y (At (e - 2 * n) (2 * n)) (No Fault.Cut 0)) (No Fault.Cut 0)) len
     go true f true g = let h = leb-true e len f in let i = leb-true (2 * n) e g in omega arith
     go true f false g = tt
     go false f y g = tt
-units-inside len (Read.No c q) w = rw w tt
+units-inside len (Read.No q c) w = rw w tt
 
 -- a view that lies within a slice; else it is refused
 unfoldable pub within : ℕ → View → View

@@ -7,7 +7,7 @@ use Rattle.walk.proofs.element_start.Statement.{statement}
 use Rattle.walk.proofs.element_start.Tie as tie
 
 abbrev Inv-loop : tie.InvT-loop
-Inv-loop s at product e j₀ p₀ j p = Skipped (placed product) s at e j (Got 0 p) × (j ≤ e)
+Inv-loop s at product e j₀ p₀ j p = Skipped (placed product) s at e j (Got p 0) × (j ≤ e)
 
 abbrev μ-loop : tie.MeasureT-loop
 μ-loop s at product e j₀ p₀ j p = e - j

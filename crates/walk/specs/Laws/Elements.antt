@@ -9,7 +9,7 @@ use Rattle.format.specs.declared.Read.{Read}
 use Rattle.format.specs.declared.Read.the-variants.{Got, No}
 use Rattle.format.specs.Laws.ReadWrite.{length-spelt}
 use Rattle.format.specs.Combinators.{number}
-use Rattle.format.specs.Laws.Seen.{seen, itself, none, unlike}
+use Rattle.format.specs.Laws.Seen.{seen, itself, none, unlike, got-at}
 use Rattle.format.specs.Laws.Written.{Stands, Held}
 use Rattle.format.specs.Laws.Back.{Where, stands-seen, stands-room, back-got, back-no}
 use Rattle.format.specs.Row.{startIn}
@@ -32,19 +32,19 @@ use Rattle.walk.specs.Elements.{ofFirst, ofElement}
 
 -- behind the fields of rule i
 unfoldable pub Counts : List ℕ → ℕ → ℕ → Read → Type 0
-Counts s at i r = (p : Product) → Where (body p i) s at (λ xs. Got (length xs) (at + 2 + length (head i .write tt))) r
+Counts s at i r = (p : Product) → Where (body p i) s at (λ xs. Got (at + 2 + length (head i .write tt)) (length xs)) r
 
 module _ (s : List ℕ) (at i : ℕ) {c : Read} (e : c ≡ seen itself (number 2) s at) where
-  pub counts-cut : (r : Read) {f : Fault} {q : ℕ} → c ≡ No f q → Counts s at i r
+  pub counts-cut : (r : Read) {f : Fault} {q : ℕ} → c ≡ No q f → Counts s at i r
   unfolding Counts Where
   counts-cut r h p xs b = back-no itself (number 2) s at (body-parts p i s at xs (b .0) (b .1) .many .1) e h
 
-  module _ {n m : ℕ} (h : c ≡ Got n m) {d : Read} (g : d ≡ seen none (head i) s m) where
-    pub counts-off : (r : Read) {f : Fault} {q : ℕ} → d ≡ No f q → Counts s at i r
+  module _ {n m : ℕ} (h : c ≡ Got m n) {d : Read} (g : d ≡ seen none (head i) s m) where
+    pub counts-off : (r : Read) {f : Fault} {q : ℕ} → d ≡ No q f → Counts s at i r
     unfolding Counts Where
     counts-off r k p xs b = back-no none (head i) s m (behind-count p i s at (body-parts p i s at xs (b .0) (b .1)) e h .1 .1 .1) g k
 
-    pub counts-is : {v q : ℕ} → d ≡ Got v q → Counts s at i (Got n q)
+    pub counts-is : {v q : ℕ} → d ≡ Got q v → Counts s at i (Got q n)
     unfolding Counts Where
     counts-is k p xs b =
         let z = behind-count p i s at (body-parts p i s at xs (b .0) (b .1)) e h in
@@ -53,9 +53,9 @@ module _ (s : List ℕ) (at i : ℕ) {c : Read} (e : c ≡ seen itself (number 2
 
 -- from its start
 unfoldable pub Elements : List ℕ → ℕ → ℕ → Read → Type 0
-Elements s at i r = (p : Product) → Where (rule p i) s at (λ x. Got (elementsIn x) (elementsAt p i at x)) r
+Elements s at i r = (p : Product) → Where (rule p i) s at (λ x. Got (elementsAt p i at x) (elementsIn x)) r
 
-pub elements-unnamed : (s : List ℕ) (at i : ℕ) (r : Read) {t : Read} {c : Fault} {q : ℕ} → t ≡ nameRead s at → t ≡ No c q → Elements s at i r
+pub elements-unnamed : (s : List ℕ) (at i : ℕ) (r : Read) {t : Read} {c : Fault} {q : ℕ} → t ≡ nameRead s at → t ≡ No q c → Elements s at i r
 unfolding Elements Where
 elements-unnamed s at i r f h p x b = name-never s at f h p i x b
 
@@ -70,12 +70,12 @@ module _ (s : List ℕ) (at i : ℕ) (r : Read) {e : ℕ} (n : e ≡ nameEnd s a
   elements-go k p x b =
       let y = rule-parts p i s at x (b .0) (b .1) in
       let z = n ∙ name-end s at p i x b in
-      k p (x .elements) (b .0, rw z (y .bodied)) ∙ ap (Got (elementsIn x)) (ap (λ (m : ℕ). m + 24 + 2 + length (head i .write tt)) z ∙ y .begins)
+      k p (x .elements) (b .0, rw z (y .bodied)) ∙ got-at (ap (λ (m : ℕ). m + 24 + 2 + length (head i .write tt)) z ∙ y .begins)
 
 -- ---- an element: its identifier and where its data start
 
 unfoldable pub Identifies : List ℕ → ℕ → ℕ → Read → Type 0
-Identifies s at j r = (p : Product) → Where (placed p j) s at (λ x. Got (x .0) (dataAt j at)) r
+Identifies s at j r = (p : Product) → Where (placed p j) s at (λ x. Got (dataAt j at) (x .0)) r
 
 module _ (s : List ℕ) (at j : ℕ) where
   identified : (q : ℕ) {r : Read} → q + 4 ≡ dataAt j at → r ≡ seen itself (number 4) s q → Identifies s at j r
@@ -84,7 +84,7 @@ module _ (s : List ℕ) (at j : ℕ) where
       let y = placed-parts p j s at x (b .0) (b .1) in
       let o : dataAt j at - 4 ≡ q = omega arith in
       let i : Held (number 4) s q (x .0) = rw o at (y .identified) in
-      e ∙ stands-seen itself (number 4) s q (i .1) ∙ ap (Got (x .0)) (ap (λ (m : ℕ). q + m) (length-spelt 4 (x .0)) ∙ z)
+      e ∙ stands-seen itself (number 4) s q (i .1) ∙ got-at (ap (λ (m : ℕ). q + m) (length-spelt 4 (x .0)) ∙ z)
 
   pub identified-first : {r : Read} → j ≡ 0 → r ≡ seen itself (number 4) s at → Identifies s at j r
   identified-first h = identified at (data-first j at h)
@@ -109,14 +109,14 @@ unfoldable pub Carries : {W : Type 0} → Product → List ℕ → ℕ → ℕ �
 Carries p s at j f v = Where (placed p j) s at (λ x. f (dataAt j at) (x .1)) v
 
 module _ {W : Type 0} (p : Product) (s : List ℕ) (at j : ℕ) (f : ℕ → Data → W) (v : W) {r : Read} (i : Identifies s at j r) where
-  pub carries-cut : {c : Fault} {q : ℕ} → r ≡ No c q → Carries p s at j f v
+  pub carries-cut : {c : Fault} {q : ℕ} → r ≡ No q c → Carries p s at j f v
   unfolding Carries Identifies Where
   carries-cut h x b = unlike (i p x b) h
 
-  module _ {id q : ℕ} (h : r ≡ Got id q) {o : Row} (g : o ≡ rowOf p id) where
+  module _ {id q : ℕ} (h : r ≡ Got q id) {o : Row} (g : o ≡ rowOf p id) where
     told : (x : Element) → Held (placed p j) s at x → (id ≡ x .0) × (q ≡ dataAt j at)
     unfolding Identifies Where
-    told x b = let z : Got id q ≡ Got (x .0) (dataAt j at) = sym h ∙ i p x b in ((cc), (cc))
+    told x b = let z : Got q id ≡ Got (dataAt j at) (x .0) = sym h ∙ i p x b in ((cc), (cc))
 
     -- its identifier has a row, and its data are of that kind
     pub carries-none : {c : Fault} {a : ℕ} → o ≡ Row.No c a → Carries p s at j f v
@@ -137,24 +137,24 @@ module _ {W : Type 0} (p : Product) (s : List ℕ) (at j : ℕ) (f : ℕ → Dat
 
 -- of a rule that stands at a place
 module _ (p : Product) (s : List ℕ) (at k : ℕ) (x : Rule) (b : Held (rule p k) s at x) {c : Read} (i : Elements s at k c) where
-  pub elements-none : {B : Type 0} {f : Fault} {q : ℕ} → c ≡ No f q → B
+  pub elements-none : {B : Type 0} {f : Fault} {q : ℕ} → c ≡ No q f → B
   unfolding Elements Where
   elements-none h = unlike (i p x b) h
 
-  module _ {n q : ℕ} (h : c ≡ Got n q) where
+  module _ {n q : ℕ} (h : c ≡ Got q n) where
     pub elements-are : (n ≡ elementsIn x) × (q ≡ elementsAt p k at x)
     unfolding Elements Where
-    elements-are = let z : Got n q ≡ Got (elementsIn x) (elementsAt p k at x) = sym h ∙ i p x b in ((cc), (cc))
+    elements-are = let z : Got q n ≡ Got (elementsAt p k at x) (elementsIn x) = sym h ∙ i p x b in ((cc), (cc))
 
     -- element e starts where z tells
     module _ (e : ℕ) (z : Read) (l : e < n) (g : Skipped (placed p) s q e e z) where
       skips : Skipped (placed p) s (elementsAt p k at x) e e z
       skips = rw (elements-are .1) at g
 
-      pub element-never : {B : Type 0} {f : Fault} {o : ℕ} → z ≡ No f o → B
+      pub element-never : {B : Type 0} {f : Fault} {o : ℕ} → z ≡ No o f → B
       element-never j = skip-never (placed p) s (elementsAt p k at x) e e skips (x .elements) (b .0) (rule-elements p k s at x (b .0) (b .1)) (omega (arith, elements-are .0)) j
 
-      pub of-element : {W : Type 0} {u o : ℕ} (absent : W) (f : ℕ → Data → W) (v : W) → z ≡ Got u o → Carries p s o e f v → v ≡ ofElement absent f p k e at x
+      pub of-element : {W : Type 0} {u o : ℕ} (absent : W) (f : ℕ → Data → W) (v : W) → z ≡ Got o u → Carries p s o e f v → v ≡ ofElement absent f p k e at x
       unfolding Carries Where
       of-element {o = o} absent f v j m =
           let t = elements-are .0 in

@@ -216,11 +216,11 @@ module _ (p : Product) (n m a : ℕ) (s d : List ℕ) where
     unfolding Where
     last-told h e = (rw e at li) (h .r) (here-in n d h)
 
-    pub word-no-list : {r : Outcome} {c : Fault} {q : ℕ} → y ≡ Read.No c q → r ≡ endSays y → MakesAs p lastOf n m a (addWord s) d r d
+    pub word-no-list : {r : Outcome} {c : Fault} {q : ℕ} → y ≡ Read.No q c → r ≡ endSays y → MakesAs p lastOf n m a (addWord s) d r d
     unfolding edited
     word-no-list k er = on-last p n m a d (addWord s) (withWord s) (λ rs. refl) _ _ l g (λ rs h z w v e′ a′. let u = made-no n d (list-none _ _ _ (sym (last-told h a′) ∙ k) _) in (er ∙ ap endSays k ∙ u .0, u .1))
 
-    module _ {c t : ℕ} (k : y ≡ Read.Got c t) where
+    module _ {c t : ℕ} (k : y ≡ Read.Got t c) where
       is-listed : {rs : List Rule} (h : Here p (take n d) rs (m - 1)) → e ≡ startOf rs (m - 1) + 4 + length (string .write (h .r .name)) → a ≡ startOf rs (m - 1) → EndsInList (m - 1) e (h .r .elements) c t
       is-listed {rs} h e′ a′ = ends-in-list p d (startOf rs (m - 1)) (m - 1) e (h .r) (here-in n d h) e′ (sym (last-told h a′) ∙ k)
 

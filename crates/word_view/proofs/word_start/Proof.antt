@@ -7,7 +7,7 @@ use Rattle.word_view.proofs.word_start.Statement.{statement}
 use Rattle.word_view.proofs.word_start.Tie as tie
 
 abbrev Inv-loop : tie.InvT-loop
-Inv-loop s at w i₀ p₀ i p = Skipped (λ i. word) s at w i (Got 0 p) × (i ≤ w)
+Inv-loop s at w i₀ p₀ i p = Skipped (λ i. word) s at w i (Got p 0) × (i ≤ w)
 
 abbrev μ-loop : tie.MeasureT-loop
 μ-loop s at w i₀ p₀ i p = w - i

@@ -10,7 +10,7 @@ use Rattle.format.specs.declared.Read.{Read}
 use Rattle.format.specs.declared.Read.the-variants as Read
 use Rattle.format.specs.Laws.ReadWrite.{length-spelt}
 use Rattle.format.specs.Combinators.{number}
-use Rattle.format.specs.Laws.Seen.{seen, itself}
+use Rattle.format.specs.Laws.Seen.{seen, itself, got-at}
 use Rattle.format.specs.Laws.Written.{Row}
 use Rattle.format.specs.Laws.Back.{Where, stands-seen, stands-room, back-got, back-no}
 use Rattle.format.specs.Row.{startIn}
@@ -42,26 +42,26 @@ unfoldable pub Words : List ℕ → ℕ → ℕ → View → Type 0
 Words s at w v = (ws : List (List ℕ)) (t : List ℕ) → Row (λ i. word) s 0 at ws t → w < length ws → v ≡ wordAt (startIn (λ i. word) at ws w) (drop w ws)
 
 -- z is what was told of its start
-pub word-never : (s : List ℕ) (at w : ℕ) (v : View) {z : Read} {c : Fault} {o : ℕ} → Skipped (λ i. word) s at w w z → z ≡ Read.No c o → Words s at w v
+pub word-never : (s : List ℕ) (at w : ℕ) (v : View) {z : Read} {c : Fault} {o : ℕ} → Skipped (λ i. word) s at w w z → z ≡ Read.No o c → Words s at w v
 unfolding Words
 word-never s at w v k j ws t row l = skip-never (λ i. word) s at w w k ws t row (omega arith) j
 
-pub word-is : (s : List ℕ) (at w : ℕ) (v : View) {z r : Read} {u q : ℕ} → Skipped (λ i. word) s at w w z → z ≡ Read.Got u q → r ≡ seen length word s q → v ≡ unitsOf (length s) r → Words s at w v
+pub word-is : (s : List ℕ) (at w : ℕ) (v : View) {z r : Read} {u q : ℕ} → Skipped (λ i. word) s at w w z → z ≡ Read.Got q u → r ≡ seen length word s q → v ≡ unitsOf (length s) r → Words s at w v
 unfolding Words
 word-is s at w v {r = r} {q = q} k j e h ws t row l =
     let n = nth (λ i. word) s at w q ws t (skip-is (λ i. word) s at w w k ws t row (omega arith) j) row l in
     let us = n .x in
     let m = word-length us in
     let o : q + length (word .write us) ≡ q + 4 + length (string .write us) = omega arith in
-    units-of (length s) (q + 4) us h (e ∙ stands-seen length word s q (n .stands) ∙ ap (Read.Got (length us)) o) (omega (arith, stands-room word s q (n .stands)))
+    units-of (length s) (q + 4) us h (e ∙ stands-seen length word s q (n .stands) ∙ got-at o) (omega (arith, stands-room word s q (n .stands)))
     ∙ ap (λ (a : ℕ). wordAt a (us ∷ n .ys)) (n .starts) ∙ ap (wordAt (startIn (λ i. word) at ws w)) (sym (n .whole))
 
 module _ (s : List ℕ) (at w : ℕ) {c : Read} (e : c ≡ seen itself (number 4) s at) where
-  pub list-cut : (v : View) {f : Fault} {q : ℕ} → c ≡ Read.No f q → Where wordData s at (dataWord w at) v
+  pub list-cut : (v : View) {f : Fault} {q : ℕ} → c ≡ Read.No q f → Where wordData s at (dataWord w at) v
   unfolding Where
   list-cut v h x b = back-no itself (number 4) s at (list-parts s at x (b .0) (b .1) .0 .1) e h
 
-  module _ {n q : ℕ} (h : c ≡ Read.Got n q) where
+  module _ {n q : ℕ} (h : c ≡ Read.Got q n) where
     pub list-short : n ≤ w → Where wordData s at (dataWord w at) (No Fault.Absent 2)
     unfolding Where
     list-short l x b =
@@ -86,11 +86,11 @@ data-other k s at w o x b =
 
 -- ---- a word of a rule
 module _ (p : Product) (s : List ℕ) (at k e w : ℕ) {c : Read} (i : Elements s at k c) where
-  pub rule-cut : (v : View) {f : Fault} {q : ℕ} → c ≡ Read.No f q → Where (rule p k) s at (ruleWord k e w p at) v
+  pub rule-cut : (v : View) {f : Fault} {q : ℕ} → c ≡ Read.No q f → Where (rule p k) s at (ruleWord k e w p at) v
   unfolding Where
   rule-cut v h x b = elements-none p s at k x b i h
 
-  module _ {n q : ℕ} (h : c ≡ Read.Got n q) where
+  module _ {n q : ℕ} (h : c ≡ Read.Got q n) where
     pub rule-short : n ≤ e → Where (rule p k) s at (ruleWord k e w p at) (No Fault.Absent 1)
     unfolding Where
     rule-short l x b =
@@ -98,10 +98,10 @@ module _ (p : Product) (s : List ℕ) (at k e w : ℕ) {c : Read} (i : Elements 
         ap (elementWord e w (startIn (placed p) (elementsAt p k at x) (x .elements) e)) (sym d)
 
     -- z is what was told of the element's start
-    pub rule-never : (v : View) {z : Read} {f : Fault} {o : ℕ} → e < n → Skipped (placed p) s q e e z → z ≡ Read.No f o → Where (rule p k) s at (ruleWord k e w p at) v
+    pub rule-never : (v : View) {z : Read} {f : Fault} {o : ℕ} → e < n → Skipped (placed p) s q e e z → z ≡ Read.No o f → Where (rule p k) s at (ruleWord k e w p at) v
     unfolding Where
     rule-never v l g j x b = element-never p s at k x b i h e _ l g j
 
-    pub rule-is : (v : View) {z : Read} {u o : ℕ} → e < n → Skipped (placed p) s q e e z → z ≡ Read.Got u o → Carries p s o e (dataWord w) v → Where (rule p k) s at (ruleWord k e w p at) v
+    pub rule-is : (v : View) {z : Read} {u o : ℕ} → e < n → Skipped (placed p) s q e e z → z ≡ Read.Got o u → Carries p s o e (dataWord w) v → Where (rule p k) s at (ruleWord k e w p at) v
     unfolding Where
     rule-is v l g j m x b = of-element p s at k x b i h e _ l g (No Fault.Absent 1) (dataWord w) v j m
