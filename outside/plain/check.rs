@@ -1,10 +1,8 @@
-//! The deck check in plain Rust: one pass over the bytes, nothing allocated.
-
-struct Refused(u64, usize);
-type Answer<T> = Result<T, Refused>;
+//! The deck check: one pass over the bytes.
+use super::{Answer, Refused};
 
 #[derive(Clone, Copy, PartialEq)]
-enum Kind {
+pub enum Kind {
     None,
     Marker,
     Simple,
@@ -42,7 +40,7 @@ const fn table() -> [(Kind, bool); 0x220] {
     t
 }
 
-static KINDS: [(Kind, bool); 0x220] = table();
+pub static KINDS: [(Kind, bool); 0x220] = table();
 
 #[inline]
 fn field<const N: usize>(s: &[u8], at: usize) -> Answer<[u8; N]> {
@@ -129,7 +127,8 @@ fn element(s: &[u8], at: usize, edition: u64) -> Answer<usize> {
     }
 }
 
-fn rule(s: &[u8], at: usize, edition: u64, first: bool) -> Answer<usize> {
+/// Where a rule ends, and how many elements it has.
+fn rule(s: &[u8], at: usize, edition: u64, first: bool) -> Answer<(usize, usize)> {
     word(s, at)?;
     let at = string(s, at + 4)?;
     if word(s, at)? > 1 {
@@ -163,10 +162,11 @@ fn rule(s: &[u8], at: usize, edition: u64, first: bool) -> Answer<usize> {
     if at - body != size {
         return Err(Refused(12, size_at));
     }
-    Ok(at)
+    Ok((at, count as usize))
 }
 
-fn deck(edition: u64, s: &[u8]) -> Answer<u64> {
+/// How many rules and elements a deck has.
+pub fn check(edition: u64, s: &[u8]) -> Answer<(usize, usize)> {
     if edition != 1 && edition != 2 {
         return Err(Refused(1, 0));
     }
@@ -180,19 +180,14 @@ fn deck(edition: u64, s: &[u8]) -> Answer<u64> {
         return Err(Refused(6, at));
     }
     let mut at = at + 2;
+    let mut elements = 0;
     for i in 0..count {
-        at = rule(s, at, edition, i == 0)?;
+        let (end, n) = rule(s, at, edition, i == 0)?;
+        at = end;
+        elements += n;
     }
     if at < s.len() {
         return Err(Refused(13, at));
     }
-    Ok(count as u64)
-}
-
-/// Code plus 256 times place.
-pub fn check(edition: u64, s: &[u8]) -> u64 {
-    match deck(edition, s) {
-        Ok(rules) => 256 * rules,
-        Err(Refused(number, place)) => number + 256 * place as u64,
-    }
+    Ok((count as usize, elements))
 }
