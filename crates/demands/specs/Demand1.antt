@@ -3,7 +3,7 @@
 -- function without a `requires` is; what follows is said of the promises.
 use Prim.Native.Nat.{ℕ, _+_, _<_}
 use native.Mathlib.Omega.{arith}
-use mathlib.Core.Path.{_≡_, refl, sym, ap, _∙_}
+use mathlib.Core.Path.{_≡_, refl, ap, _∙_}
 use mathlib.Core.Bool.{Bool, true, false}
 use mathlib.Core.List.{List, [], _∷_}
 use lib.Dec.{leb}
@@ -16,6 +16,7 @@ use Rattle.format.specs.Fault.{numberOf, codeOf, Said}
 use Rattle.format.specs.Format.{Answer, pick, Bytes}
 use Rattle.format.specs.Laws.Format.{one}
 use Rattle.buffer.specs.Laid.{put}
+use Rattle.room.specs.Room.{roomFor}
 use Rattle.kind.specs.declared.Product.{Product}
 use Rattle.kind.specs.declared.Edition.{Edition}
 use Rattle.kind.specs.declared.Edition.the-variants as Edition
@@ -85,12 +86,12 @@ put-as-found edition id v buf = go (putting edition id v (length buf))
     go (deny o) h = refl
 
 pub start-as-found : (d : List ℕ) → 0 < codeOf (startSays (length d)) → startLeaves d ≡ d
-unfolding pick
+unfolding roomFor pick
 start-as-found d = go (leb 7 (length d)) refl
   where
     go : (b : Bool) → leb 7 (length d) ≡ b → 0 < codeOf (pick b (Outcome.Done 7) (Outcome.No Fault.Room 0)) → startLeaves d ≡ d
     go true e h = absurd (omega arith)
-    go false e h = sym (start-none d (leb-false 7 (length d) e) .1)
+    go false e h = start-none d (leb-false 7 (length d) e)
 
 -- ---- "refuses by a number and a place from document 01's table": by the numbers that the call may give, at the places that the table has for them
 
@@ -121,7 +122,7 @@ edit-refuses edition n e d h f = edit-listed edition n e d h f
 
 -- "it refuses only with 20"
 pub start-refuses : (cap : ℕ) → Lists (exactly 20 0 ∷ []) (startSays cap)
-unfolding pick allowed
+unfolding roomFor pick allowed
 start-refuses cap = go (leb 7 cap)
   where
     go : (b : Bool) → Lists (exactly 20 0 ∷ []) (pick b (Outcome.Done 7) (Outcome.No Fault.Room 0))

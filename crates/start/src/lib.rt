@@ -1,5 +1,4 @@
 // Starting an empty deck, which begins a run of edits.
-use format::Fault;
 use format::Outcome;
 ghost use mathlib.Core.Path.{_≡_};
 ghost use lib.ListN.{length};
@@ -9,9 +8,6 @@ ghost use Rattle.start.specs.Start.{startSays, startLeaves};
 pub fn start(buf: &mut [u8]) -> Outcome
     ensures { λ r. ⌜ (r ≡ startSays (length (now (buf .entry)))) × (now (buf .exit) ≡ startLeaves (now (buf .entry))) ⌝ }
 {
-    if buf.len() < 7 {
-        return Outcome::No(Fault::Room, 0);
-    }
     buffer::put_number(buf, 0, 7, 0x014B_4452);
-    Outcome::Done(7)
+    room::room_for(0, 7, buf.len())
 }

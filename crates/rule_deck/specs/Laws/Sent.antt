@@ -12,6 +12,7 @@ use Rattle.format.specs.declared.Outcome.the-variants as Outcome
 use Rattle.format.specs.Fault.{placeOf, packed, Said}
 use Rattle.format.specs.Format.{Bytes, pick}
 use Rattle.packed.specs.Laws.Packed.{packed-whole}
+use Rattle.room.specs.Room.{roomFor}
 use Rattle.plan.specs.Edit.{Edit, Edits}
 use Rattle.plan.specs.Handed.{Handed}
 use Rattle.start.specs.Start.{startSays}
@@ -27,7 +28,7 @@ pub sent : (edition n : ℕ) (e : Edit) (d : List ℕ) {o : Outcome} {d′ : Lis
 sent edition n e d b h f g = (h, (packed-whole g (f .0) (plan-small edition n d e b h), f .1))
 
 pub start-small : (cap : ℕ) → placeOf (startSays cap) ≤ 60000
-unfolding pick
+unfolding roomFor pick
 start-small cap = go (leb 7 cap)
   where
     go : (b : Bool) → placeOf (pick b (Outcome.Done 7) (Outcome.No Fault.Room 0)) ≤ 60000

@@ -24,6 +24,7 @@ use Rattle.deck.specs.Written.{written}
 use Rattle.deck.specs.Laws.Written.{written-as}
 use Rattle.buffer.specs.Laid.{laid}
 use Rattle.buffer.specs.Laws.Laid.{laid-start, take-laid, length-laid, drop-laid}
+use Rattle.room.specs.Room.{roomFor}
 use Rattle.plan.specs.Edit.{Edit, edited, inRoom}
 use Rattle.plan.specs.Handed.{Handed}
 use Rattle.start.specs.Start.{startSays, startLeaves}
@@ -55,7 +56,7 @@ at-accepted p d n m rs bs l r =
 
 -- an accepted start: "It begins a run of edits and is no member of one"
 accepted-start : (cap : ℕ) → codeOf (startSays cap) ≡ 0 → (7 ≤ cap) × (placeOf (startSays cap) ≡ 7)
-unfolding pick
+unfolding roomFor pick
 accepted-start cap e = go (leb 7 cap) refl e
   where
     go : (b : Bool) → leb 7 cap ≡ b → codeOf (pick b (Outcome.Done 7) (Outcome.No Fault.Room 0)) ≡ 0 → (7 ≤ cap) × (placeOf (pick b (Outcome.Done 7) (Outcome.No Fault.Room 0)) ≡ 7)

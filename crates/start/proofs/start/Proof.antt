@@ -1,14 +1,12 @@
-use native.Mathlib.Omega.{arith}
-use Rattle.start.specs.Laws.Start.{start-none, start-is}
+use mathlib.Core.Path.{ap, _∙_}
+use Rattle.room.specs.Room.{roomFor}
+use Rattle.start.specs.Laws.Start.{start-is}
 use borrow.Author.Needs.{needs}
 use Rattle.start.proofs.start.Statement.{statement}
 use Rattle.start.proofs.start.Tie as tie
 
 returns : tie.Need-returns
-returns c = start-none _ (omega arith)
-
-returns-2 : tie.Need-returns-2
-returns-2 c = start-is _ (omega arith) (c .before .before .put-number .ensures)
+returns c = (c .room-for .ensures ∙ ap (roomFor 0 7) (c .before .before .before .put-number .kept .0), c .before .before .before .put-number .ensures ∙ start-is _)
 
 pub start-spec : {M : Type 1} → statement M
-start-spec = tie.close (tie.spec returns (λ c κs. search needs) (λ c. search needs) returns-2)
+start-spec = tie.close (tie.spec (λ c κs. search needs) (λ c κs. search needs) (λ c. search needs) returns)

@@ -4,11 +4,6 @@ use native.Mathlib.Omega.{arith}
 use mathlib.Core.Path.{_≡_, refl, sym, ap, _∙_}
 use mathlib.Core.List.{List, []}
 use lib.ListN.{length}
-use borrow.Author.Tests.{le-leb, lt-leb}
-use Rattle.format.specs.declared.Fault.the-variants as Fault
-use Rattle.format.specs.declared.Outcome.{Outcome}
-use Rattle.format.specs.declared.Outcome.the-variants as Outcome
-use Rattle.format.specs.Format.{pick}
 use Rattle.format.specs.ReadWrite.{pairWrite, value, spelt, eachWrite}
 use Rattle.format.specs.Laws.ReadWrite.{length-spelt}
 use Rattle.format.specs.Combinators.{pair, seq, _then_, judged, via, number, count, fixed, bytes, each, counted}
@@ -16,7 +11,7 @@ use Rattle.deck.specs.Deck.{mark, header, deck}
 use Rattle.deck.specs.Written.{written}
 use Rattle.buffer.specs.Laid.{putIn, put, laid}
 use Rattle.buffer.specs.Laws.Laid.{put-in, put-out}
-use Rattle.start.specs.Start.{startSays, startLeaves}
+use Rattle.start.specs.Start.{startLeaves}
 
 -- ---- as the code writes it
 pub empty-is : spelt 7 0x014B4452 ≡ written []
@@ -27,13 +22,14 @@ pub empty-long : length (written []) ≡ 7
 empty-long = sym (ap length empty-is) ∙ length-spelt 7 0x014B4452
 
 module _ (d : List ℕ) where
-  pub start-none : length d < 7 → (Outcome.No Fault.Room 0 ≡ startSays (length d)) × (d ≡ startLeaves d)
-  unfolding startLeaves pick
-  start-none h = (rw (lt-leb 7 (length d) h), put-out d 0 (written []) (λ w. omega (arith, w, empty-long)))
+  pub start-is : putIn d 0 (spelt 7 0x014B4452) ≡ startLeaves d
+  unfolding startLeaves
+  start-is = ap (putIn d 0) empty-is
 
-  pub start-is : {y : List ℕ} → 7 ≤ length d → y ≡ putIn d 0 (spelt 7 0x014B4452) → (Outcome.Done 7 ≡ startSays (length d)) × (y ≡ startLeaves d)
-  unfolding startLeaves pick
-  start-is h e = (rw (le-leb 7 (length d) h), e ∙ ap (putIn d 0) empty-is)
+  -- in a buffer that is too short nothing is put
+  pub start-none : length d < 7 → startLeaves d ≡ d
+  unfolding startLeaves
+  start-none h = sym (put-out d 0 (written []) (λ w. omega (arith, w, empty-long)))
 
   -- the empty deck is laid in the buffer
   pub start-laid : 7 ≤ length d → startLeaves d ≡ laid (written []) 7 d
