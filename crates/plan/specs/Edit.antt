@@ -114,13 +114,13 @@ edited p (addWord word) rs =
     (ifText word (become (take (length rs - 1) rs ++ (holding (take (length (r .elements) - 1) (r .elements) ++ ((id, words (ws ++ (units word ∷ []))) ∷ [])) r ∷ []))))
 
 -- what 18, 19 and 20 leave of the edited list
-abbrev pub fitted : Outcome → List Rule → Plan
-fitted (Outcome.Done n) rs = become rs
-fitted (Outcome.No c q) rs = refuse c q
-fitted (Outcome.Given c q) rs = refuseGiven c q
+abbrev pub ifDone : Outcome → List Rule → Plan
+ifDone (Outcome.Done n) rs = become rs
+ifDone (Outcome.No c q) rs = refuse c q
+ifDone (Outcome.Given c q) rs = refuseGiven c q
 
 abbrev pub inRoom : ℕ → Plan → Plan
-inRoom cap (become rs) = fitted (roomFor (length rs) (length (written rs)) cap) rs
+inRoom cap (become rs) = ifDone (roomFor (length rs) (length (written rs)) cap) rs
 inRoom cap (refuse c q) = refuse c q
 inRoom cap (refuseGiven c q) = refuseGiven c q
 

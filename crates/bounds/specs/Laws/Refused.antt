@@ -22,7 +22,7 @@ use Rattle.deck.specs.Written.{written}
 use Rattle.room.specs.Room.{roomFor}
 use Rattle.room.specs.Laws.Room.{Judged, done, many, large, full, room-judged}
 use Rattle.given.specs.Given.{given}
-use Rattle.plan.specs.Edit.{Edit, switch, rename, remove, insert, addRule, addElement, addWord, Plan, become, refuse, refuseGiven, atRule, atCopy, atSecond, atLast, atList, unlessFull, ifText, atGiven, edited, fitted, inRoom, plan, planBy, planned}
+use Rattle.plan.specs.Edit.{Edit, switch, rename, remove, insert, addRule, addElement, addWord, Plan, become, refuse, refuseGiven, atRule, atCopy, atSecond, atLast, atList, unlessFull, ifText, atGiven, edited, ifDone, inRoom, plan, planBy, planned}
 use Rattle.bounds.specs.Calls.{judges, owns, Gift, givenTo, nothing, aDeck, anElement}
 
 -- a plan that is refused, if it is, as they say; and what is known of the list that it becomes
@@ -122,7 +122,7 @@ module _ (N G : Fault → ℕ → Type 0) where
   unfolding Each
   only-room e o cap (become rs) f = few (roomFor (length rs) (length (written rs)) cap) (room-judged (length rs) (length (written rs)) cap)
     where
-      few : (r : Outcome) → Judged (length rs) (length (written rs)) cap r → Only NotLarge N G (fitted r rs)
+      few : (r : Outcome) → Judged (length rs) (length (written rs)) cap r → Only NotLarge N G (ifDone r rs)
       few r (done w) = w .short
       few r full = o .1 .1 .1 .1 .0
       few r large = o .1 .1 .1 .0

@@ -29,7 +29,7 @@ use Rattle.room.specs.Laws.Room.{room-is, roomy}
 use Rattle.buffer.specs.Laws.Holds.{Holds}
 use Rattle.locate.specs.Laws.Steps.{Sound, Here, here, nameRead, nameEnd, name-end, name-never}
 use Rattle.given.specs.Given.{isText}
-use Rattle.plan.specs.Edit.{Edit, Plan, become, refuse, refuseGiven, atRule, atLast, ifText, unlessFull, atGiven, fitted, says, leaves}
+use Rattle.plan.specs.Edit.{Edit, Plan, become, refuse, refuseGiven, atRule, atLast, ifText, unlessFull, atGiven, ifDone, says, leaves}
 use Rattle.plan.specs.Laws.Found.{Makes, Does}
 
 -- ---- the deck that is found
@@ -133,7 +133,7 @@ module _ (n : ℕ) (d : List ℕ) {q : Plan} where
     unfolding says leaves
     made-out {o} e f h em el = rw (e, ← em, ← el, ← f) (go o h)
       where
-        go : (o : Outcome) → ((v : ℕ) → o ≡ Outcome.Done v → ⊥) → (o ≡ says (fitted o rs)) × (d ≡ leaves n d (fitted o rs))
+        go : (o : Outcome) → ((v : ℕ) → o ≡ Outcome.Done v → ⊥) → (o ≡ says (ifDone o rs)) × (d ≡ leaves n d (ifDone o rs))
         go (Outcome.Done v) h = absurd (h v refl)
         go (Outcome.No c p) h = (refl, refl)
         go (Outcome.Given c p) h = (refl, refl)

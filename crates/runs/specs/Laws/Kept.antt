@@ -24,7 +24,7 @@ use Rattle.deck.specs.Written.{written}
 use Rattle.room.specs.Room.{roomFor}
 use Rattle.room.specs.Laws.Room.{Judged, done, many, large, full, room-judged}
 use Rattle.given.specs.Given.{isText, units}
-use Rattle.plan.specs.Edit.{Edit, switch, rename, remove, insert, addRule, addElement, addWord, Plan, become, refuse, refuseGiven, atRule, atCopy, atSecond, atLast, atList, unlessFull, ifText, atGiven, edited, fitted, inRoom, switched, renamed, holding, newRule}
+use Rattle.plan.specs.Edit.{Edit, switch, rename, remove, insert, addRule, addElement, addWord, Plan, become, refuse, refuseGiven, atRule, atCopy, atSecond, atLast, atList, unlessFull, ifText, atGiven, edited, ifDone, inRoom, switched, renamed, holding, newRule}
 use Rattle.plan.specs.Handed.{HandedFields, Handed}
 use Rattle.runs.specs.Laws.Fits.{Every, every-append, every-take, every-drop, Fits, fits-deck}
 use Rattle.runs.specs.Laws.Given.{text-fits, word-fits, given-fits, word-more}
@@ -87,7 +87,7 @@ module _ {rs : List Rule} where
 pub in-room : (cap : ℕ) (q : Plan) {rs : List Rule} → inRoom cap q ≡ become rs → (q ≡ become rs) × ((length rs ≤ 256) × ((length (written rs) ≤ 60000) × (length (written rs) ≤ cap)))
 in-room cap (become xs) {rs} e = go (roomFor (length xs) (length (written xs)) cap) (room-judged (length xs) (length (written xs)) cap) e
   where
-    go : (o : Outcome) → Judged (length xs) (length (written xs)) cap o → fitted o xs ≡ become rs → (become xs ≡ become rs) × ((length rs ≤ 256) × ((length (written rs) ≤ 60000) × (length (written rs) ≤ cap)))
+    go : (o : Outcome) → Judged (length xs) (length (written xs)) cap o → ifDone o xs ≡ become rs → (become xs ≡ become rs) × ((length rs ≤ 256) × ((length (written rs) ≤ 60000) × (length (written rs) ≤ cap)))
     go o (done w) z = let u : xs ≡ rs = cc in rw (← u) (refl, (w .few, (w .short, w .inside)))
     go o many z = no-list z
     go o large z = no-list z
