@@ -8,7 +8,6 @@ use mathlib.Core.Bool.{Bool, true, false}
 use mathlib.Core.List.{List, [], _∷_}
 use lib.Dec.{leb}
 use lib.ListN.{length}
-use borrow.Author.Tests.{leb-false}
 use Rattle.format.specs.declared.Fault.the-variants as Fault
 use Rattle.format.specs.declared.Outcome.{Outcome}
 use Rattle.format.specs.declared.Outcome.the-variants as Outcome
@@ -16,7 +15,7 @@ use Rattle.format.specs.Fault.{numberOf, codeOf, Said}
 use Rattle.format.specs.Format.{Answer, pick, Bytes}
 use Rattle.format.specs.Laws.Format.{one}
 use Rattle.buffer.specs.Laid.{put}
-use Rattle.room.specs.Room.{roomFor}
+use Rattle.room.specs.Laws.Room.{room-judged}
 use Rattle.kind.specs.declared.Product.{Product}
 use Rattle.kind.specs.declared.Edition.{Edition}
 use Rattle.kind.specs.declared.Edition.the-variants as Edition
@@ -86,12 +85,7 @@ put-as-found edition id v buf = go (putting edition id v (length buf))
     go (deny o) h = refl
 
 pub start-as-found : (d : List ℕ) → 0 < codeOf (startSays (length d)) → startLeaves d ≡ d
-unfolding roomFor pick
-start-as-found d = go (leb 7 (length d)) refl
-  where
-    go : (b : Bool) → leb 7 (length d) ≡ b → 0 < codeOf (pick b (Outcome.Done 7) (Outcome.No Fault.Room 0)) → startLeaves d ≡ d
-    go true e h = absurd (omega arith)
-    go false e h = start-none d (leb-false 7 (length d) e)
+start-as-found d = room-judged 0 7 (length d) (λ o. 0 < codeOf o → startLeaves d ≡ d) (λ w h. absurd (omega arith)) (λ l. absurd (omega arith)) (λ l. absurd (omega arith)) (λ l h. start-none d l)
 
 -- ---- "refuses by a number and a place from document 01's table": by the numbers that the call may give, at the places that the table has for them
 
@@ -122,12 +116,8 @@ edit-refuses edition n e d h f = edit-listed edition n e d h f
 
 -- "it refuses only with 20"
 pub start-refuses : (cap : ℕ) → Lists (exactly 20 0 ∷ []) (startSays cap)
-unfolding roomFor pick allowed
-start-refuses cap = go (leb 7 cap)
-  where
-    go : (b : Bool) → Lists (exactly 20 0 ∷ []) (pick b (Outcome.Done 7) (Outcome.No Fault.Room 0))
-    go true = tt
-    go false = (refl, refl)
+unfolding allowed
+start-refuses cap = room-judged 0 7 cap (Lists (exactly 20 0 ∷ [])) (λ w. tt) (λ l. absurd (omega arith)) (λ l. absurd (omega arith)) (λ l. (refl, refl))
 
 -- "An identifier alone .. 1, 9 or 10 at 0"
 pub kind-refuses : (edition id : ℕ) → Lists kindNumbers (kindOf edition id .0)

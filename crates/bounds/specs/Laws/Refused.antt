@@ -5,10 +5,8 @@ use mathlib.Core.Bool.{Bool, true, false}
 use mathlib.Core.List.{List, [], _∷_}
 use lib.Dec.{leb}
 use lib.ListN.{length, take}
-use borrow.Author.Tests.{leb-true}
 use Rattle.format.specs.declared.Fault.{Fault}
 use Rattle.format.specs.declared.Fault.the-variants as Fault
-use Rattle.format.specs.declared.Outcome.{Outcome}
 use Rattle.format.specs.Format.{Answer, got, refused, pick}
 use Rattle.kind.specs.declared.Product.{Product}
 use Rattle.kind.specs.declared.Edition.{Edition}
@@ -19,8 +17,7 @@ use Rattle.element.specs.Element.{Element}
 use Rattle.rule.specs.Rule.{Rule}
 use Rattle.deck.specs.Deck.{readAs}
 use Rattle.deck.specs.Written.{written}
-use Rattle.room.specs.Room.{roomFor}
-use Rattle.room.specs.Laws.Room.{Judged, done, many, large, full, room-judged}
+use Rattle.room.specs.Laws.Room.{room-judged}
 use Rattle.given.specs.Given.{given}
 use Rattle.plan.specs.Edit.{Edit, switch, rename, remove, insert, addRule, addElement, addWord, Plan, become, refuse, refuseGiven, atRule, atCopy, atSecond, atLast, atList, unlessFull, ifText, atGiven, edited, ifDone, inRoom, plan, planBy, planned}
 use Rattle.bounds.specs.Calls.{judges, owns, Gift, givenTo, nothing, aDeck, anElement}
@@ -120,13 +117,8 @@ module _ (N G : Fault → ℕ → Type 0) where
 
   only-room : (e : Edit) → Each N (owns e) → (cap : ℕ) (q : Plan) → Only Any N G q → Only NotLarge N G (inRoom cap q)
   unfolding Each
-  only-room e o cap (become rs) f = few (roomFor (length rs) (length (written rs)) cap) (room-judged (length rs) (length (written rs)) cap)
-    where
-      few : (r : Outcome) → Judged (length rs) (length (written rs)) cap r → Only NotLarge N G (ifDone r rs)
-      few r (done w) = w .short
-      few r full = o .1 .1 .1 .1 .0
-      few r large = o .1 .1 .1 .0
-      few r many = o .1 .1 .0
+  only-room e o cap (become rs) f =
+      room-judged (length rs) (length (written rs)) cap (λ r. Only NotLarge N G (ifDone r rs)) (λ w. w .short) (λ l. o .1 .1 .0) (λ l. o .1 .1 .1 .0) (λ l. o .1 .1 .1 .1 .0)
   only-room e o cap (refuse c q) f = f
   only-room e o cap (refuseGiven c q) f = f
 

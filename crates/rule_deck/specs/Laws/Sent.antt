@@ -2,17 +2,13 @@
 use Prim.Native.Nat.{ℕ, _≤_, _%_, _^_}
 use native.Mathlib.Omega.{arith}
 use mathlib.Core.Path.{_≡_, ap, _∙_}
-use mathlib.Core.Bool.{Bool, true, false}
 use mathlib.Core.List.{List}
-use lib.Dec.{leb}
 use lib.ListN.{length}
-use Rattle.format.specs.declared.Fault.the-variants as Fault
 use Rattle.format.specs.declared.Outcome.{Outcome}
-use Rattle.format.specs.declared.Outcome.the-variants as Outcome
 use Rattle.format.specs.Fault.{placeOf, packed, Said}
-use Rattle.format.specs.Format.{Bytes, pick}
+use Rattle.format.specs.Format.{Bytes}
 use Rattle.packed.specs.Laws.Packed.{packed-whole}
-use Rattle.room.specs.Room.{roomFor}
+use Rattle.room.specs.Laws.Room.{room-judged}
 use Rattle.plan.specs.Edit.{Edit, Edits}
 use Rattle.plan.specs.Handed.{Handed}
 use Rattle.start.specs.Start.{startSays}
@@ -28,12 +24,7 @@ pub sent : (edition n : ℕ) (e : Edit) (d : List ℕ) {o : Outcome} {d′ : Lis
 sent edition n e d b h f g = (h, (packed-whole g (f .0) (plan-small edition n d e b h), f .1))
 
 pub start-small : (cap : ℕ) → placeOf (startSays cap) ≤ 60000
-unfolding roomFor pick
-start-small cap = go (leb 7 cap)
-  where
-    go : (b : Bool) → placeOf (pick b (Outcome.Done 7) (Outcome.No Fault.Room 0)) ≤ 60000
-    go true = omega arith
-    go false = omega arith
+start-small cap = room-judged 0 7 cap (λ o. placeOf o ≤ 60000) (λ w. omega arith) (λ l. omega arith) (λ l. omega arith) (λ l. omega arith)
 
 -- a view that was found, and its number and place
 pub inside-as : {v w : View} (n : ℕ) → v ≡ w → Inside v n → Inside w n

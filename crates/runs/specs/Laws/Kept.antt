@@ -6,9 +6,8 @@ use mathlib.Core.Bool.{Bool, true, false}
 use mathlib.Core.List.{List, [], _∷_, _++_}
 use lib.Dec.{leb, ltb}
 use lib.ListN.{length, take, drop, length-append, take-append-drop}
-use borrow.Author.Tests.{leb-true, ltb-true}
+use borrow.Author.Tests.{ltb-true}
 use Rattle.format.specs.declared.Fault.{Fault}
-use Rattle.format.specs.declared.Outcome.{Outcome}
 use Rattle.format.specs.Format.{Answer, got, refused, Format, pick}
 use Rattle.format.specs.ReadWrite.{AllFit}
 use Rattle.format.specs.Laws.ReadWrite.{all-append, all-take, all-drop}
@@ -21,8 +20,7 @@ use Rattle.rule.specs.Rule.{Rule, placed}
 use Rattle.rule.specs.Laws.Rule.{one-placed, fits-placed}
 use Rattle.deck.specs.Laws.Deck.{read-writes-back}
 use Rattle.deck.specs.Written.{written}
-use Rattle.room.specs.Room.{roomFor}
-use Rattle.room.specs.Laws.Room.{Judged, done, many, large, full, room-judged}
+use Rattle.room.specs.Laws.Room.{room-judged}
 use Rattle.given.specs.Given.{isText, units}
 use Rattle.plan.specs.Edit.{Edit, switch, rename, remove, insert, addRule, addElement, addWord, Plan, become, refuse, refuseGiven, atRule, atCopy, atSecond, atLast, atList, unlessFull, ifText, atGiven, edited, ifDone, inRoom, switched, renamed, holding, newRule}
 use Rattle.plan.specs.Handed.{HandedFields, Handed}
@@ -85,13 +83,9 @@ module _ {rs : List Rule} where
 
 -- 18, 19 and 20 were judged
 pub in-room : (cap : ℕ) (q : Plan) {rs : List Rule} → inRoom cap q ≡ become rs → (q ≡ become rs) × ((length rs ≤ 256) × ((length (written rs) ≤ 60000) × (length (written rs) ≤ cap)))
-in-room cap (become xs) {rs} e = go (roomFor (length xs) (length (written xs)) cap) (room-judged (length xs) (length (written xs)) cap) e
-  where
-    go : (o : Outcome) → Judged (length xs) (length (written xs)) cap o → ifDone o xs ≡ become rs → (become xs ≡ become rs) × ((length rs ≤ 256) × ((length (written rs) ≤ 60000) × (length (written rs) ≤ cap)))
-    go o (done w) z = let u : xs ≡ rs = cc in rw (← u) (refl, (w .few, (w .short, w .inside)))
-    go o many z = no-list z
-    go o large z = no-list z
-    go o full z = no-list z
+in-room cap (become xs) {rs} e =
+    room-judged (length xs) (length (written xs)) cap (λ o. ifDone o xs ≡ become rs → (become xs ≡ become rs) × ((length rs ≤ 256) × ((length (written rs) ≤ 60000) × (length (written rs) ≤ cap))))
+    (λ w z. let u : xs ≡ rs = cc in rw (← u) (refl, (w .few, (w .short, w .inside)))) (λ l. no-list) (λ l. no-list) (λ l. no-list) e
 in-room cap (refuse c q) e = no-list e
 in-room cap (refuseGiven c q) e = not-given e
 

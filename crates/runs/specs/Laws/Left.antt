@@ -2,16 +2,11 @@
 use Prim.Native.Nat.{ℕ, _≤_}
 use native.Mathlib.Omega.{arith}
 use mathlib.Core.Path.{_≡_, refl, sym, ap, ap₂, _∙_}
-use mathlib.Core.Bool.{Bool, true, false}
 use mathlib.Core.List.{List, [], _∷_}
-use lib.Dec.{leb}
 use lib.ListN.{length, take}
 use lib.Seq.{length-take-le}
-use borrow.Author.Tests.{leb-true}
-use Rattle.format.specs.declared.Fault.the-variants as Fault
-use Rattle.format.specs.declared.Outcome.the-variants as Outcome
 use Rattle.format.specs.Fault.{codeOf, placeOf}
-use Rattle.format.specs.Format.{got, Bytes, pick}
+use Rattle.format.specs.Format.{got, Bytes}
 use Rattle.format.specs.Laws.Format.{bytes-take}
 use Rattle.kind.specs.declared.Product.{Product}
 use Rattle.kind.specs.declared.Product.the-variants.{Studio}
@@ -24,7 +19,7 @@ use Rattle.deck.specs.Written.{written}
 use Rattle.deck.specs.Laws.Written.{written-as}
 use Rattle.buffer.specs.Laid.{laid}
 use Rattle.buffer.specs.Laws.Laid.{laid-start, take-laid, length-laid, drop-laid}
-use Rattle.room.specs.Room.{roomFor}
+use Rattle.room.specs.Laws.Room.{room-judged}
 use Rattle.plan.specs.Edit.{Edit, edited, inRoom}
 use Rattle.plan.specs.Handed.{Handed}
 use Rattle.start.specs.Start.{startSays, startLeaves}
@@ -56,12 +51,8 @@ at-accepted p d n m rs bs l r =
 
 -- an accepted start: "It begins a run of edits and is no member of one"
 accepted-start : (cap : ℕ) → codeOf (startSays cap) ≡ 0 → (7 ≤ cap) × (placeOf (startSays cap) ≡ 7)
-unfolding roomFor pick
-accepted-start cap e = go (leb 7 cap) refl e
-  where
-    go : (b : Bool) → leb 7 cap ≡ b → codeOf (pick b (Outcome.Done 7) (Outcome.No Fault.Room 0)) ≡ 0 → (7 ≤ cap) × (placeOf (pick b (Outcome.Done 7) (Outcome.No Fault.Room 0)) ≡ 7)
-    go true t h = (leb-true 7 cap t, refl)
-    go false t h = absurd (omega arith)
+accepted-start cap =
+    room-judged 0 7 cap (λ o. codeOf o ≡ 0 → (7 ≤ cap) × (placeOf o ≡ 7)) (λ w e. (w .inside, refl)) (λ l. absurd (omega arith)) (λ l. absurd (omega arith)) (λ l e. absurd (omega arith))
 
 pub at-start : (p : Product) (d : List ℕ) → codeOf (startSays (length d)) ≡ 0 → Begins p d ([], 7) (startLeaves d, placeOf (startSays (length d)))
 unfolding Every
