@@ -79,7 +79,7 @@ pub extern "C" fn rule_deck_kind(edition: u64, identifier: u32, kind: &mut [u32]
 pub extern "C" fn rule_deck_fields(edition: u64, deck: &[u8], k: u64, fields: &mut [u32]) -> u64
     ensures { λ r. ⌜ Hands fieldsWidth (now (fields .entry)) (fieldsAnswer edition k (now (deck .entry))) r (now (fields .exit)) ⌝ }
 {
-    packed::pack(lent_rule::fields(edition, deck, k, fields))
+    packed::pack(lent_fields::fields(edition, deck, k, fields))
 }
 
 // The name of rule k as a part of the deck, by its numbers.
@@ -87,7 +87,7 @@ pub extern "C" fn rule_deck_fields(edition: u64, deck: &[u8], k: u64, fields: &m
 pub extern "C" fn rule_deck_name_part(edition: u64, deck: &[u8], k: u64, part: &mut [u32]) -> u64
     ensures { λ r. ⌜ Hands partWidth (now (part .entry)) (partSays (nameView edition k (now (deck .entry)))) r (now (part .exit)) ⌝ }
 {
-    packed::pack(lent_rule::name_part(edition, deck, k, part))
+    packed::pack(lent_part::name_part(edition, deck, k, part))
 }
 
 // Word w of element e of rule k as a part of the deck, by its numbers.
@@ -102,7 +102,7 @@ pub extern "C" fn rule_deck_word_part(
 ) -> u64
     ensures { λ r. ⌜ Hands partWidth (now (part .entry)) (partSays (wordView edition k e w (now (deck .entry)))) r (now (part .exit)) ⌝ }
 {
-    packed::pack(lent_rule::word_part(edition, deck, k, e, w, part))
+    packed::pack(lent_part::word_part(edition, deck, k, e, w, part))
 }
 
 // What the date of these bits says.

@@ -333,9 +333,9 @@ fn fill(v: &[u8], s: &[u8], table: &mut [u32]) -> Outcome {
     match byte(v, 0) {
         1 => lent::kind(edition, narrow(k), table),
         4 => lent::moment(edition, table),
-        9 => lent_rule::fields(edition, s, k, table),
-        18 => lent_rule::name_part(edition, s, k, table),
-        _ => lent_rule::word_part(edition, s, k, number(v, 2), number(v, 3), table),
+        9 => lent_fields::fields(edition, s, k, table),
+        18 => lent_part::name_part(edition, s, k, table),
+        _ => lent_part::word_part(edition, s, k, number(v, 2), number(v, 3), table),
     }
 }
 

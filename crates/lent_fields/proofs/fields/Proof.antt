@@ -2,8 +2,8 @@ use mathlib.Core.Path.{refl, sym, ap, _∙_}
 use Rattle.fixed.specs.Fixed.{fieldsSay}
 use Rattle.lent.specs.Laws.Lent.{lent-as, lent-no}
 use borrow.Author.Needs.{needs}
-use Rattle.lent_rule.proofs.fields.Statement.{statement}
-use Rattle.lent_rule.proofs.fields.Tie as tie
+use Rattle.lent_fields.proofs.fields.Statement.{statement}
+use Rattle.lent_fields.proofs.fields.Tie as tie
 
 returns : tie.Need-returns
 returns c = lent-as _ _ _ (c .before .before .put-fields .ensures) (ap fieldsSay (sym (c .before .before .before .before .before .v .given .1)) ∙ c .before .before .before .before .before .before .before .fixed .ensures .1)

@@ -4,8 +4,8 @@ use Rattle.bounds.specs.Laws.Places.{name-short}
 use Rattle.view.specs.View.{partSays}
 use Rattle.lent.specs.Laws.Lent.{lent-as}
 use borrow.Author.Needs.{needs}
-use Rattle.lent_rule.proofs.name_part.Statement.{statement}
-use Rattle.lent_rule.proofs.name_part.Tie as tie
+use Rattle.lent_part.proofs.name_part.Statement.{statement}
+use Rattle.lent_part.proofs.name_part.Tie as tie
 
 put-part-requires : tie.Need-put-part-requires
 put-part-requires c κs = name-short _ _ _ (bytes-all (c .before .before .before .before .args .s .now) (c .before .before .before .shared-slice-known .given)) (c .before .find-name .ensures .0) (c .before .find-name .ensures .1)

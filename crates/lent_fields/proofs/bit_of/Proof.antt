@@ -1,8 +1,8 @@
 use mathlib.Core.Path.{sym, ap}
 use Rattle.format.specs.ReadWrite.{bit}
 use Rattle.format.specs.Format.{pick}
-use Rattle.lent_rule.proofs.bit_of.Statement.{statement}
-use Rattle.lent_rule.proofs.bit_of.Tie as tie
+use Rattle.lent_fields.proofs.bit_of.Statement.{statement}
+use Rattle.lent_fields.proofs.bit_of.Tie as tie
 
 returns : tie.Need-returns
 unfolding bit pick

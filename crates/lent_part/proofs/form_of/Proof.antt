@@ -4,8 +4,8 @@ use mathlib.Core.Bool.{Bool}
 use borrow.Author.Tests.{eq-eqb, ne-eqb}
 use Rattle.text.specs.Text.{formOf}
 use Rattle.format.specs.Format.{pick}
-use Rattle.lent_rule.proofs.form_of.Statement.{statement}
-use Rattle.lent_rule.proofs.form_of.Tie as tie
+use Rattle.lent_part.proofs.form_of.Statement.{statement}
+use Rattle.lent_part.proofs.form_of.Tie as tie
 
 returns : tie.Need-returns
 unfolding formOf pick

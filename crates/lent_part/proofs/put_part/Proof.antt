@@ -6,8 +6,8 @@ use Rattle.view.specs.View.{partSays}
 use Rattle.view.specs.Laws.View.{inside-at}
 use Rattle.lent.specs.Laws.Lent.{told, lent-row, lent-no}
 use borrow.Author.Needs.{needs}
-use Rattle.lent_rule.proofs.put_part.Statement.{statement}
-use Rattle.lent_rule.proofs.put_part.Tie as tie
+use Rattle.lent_part.proofs.put_part.Statement.{statement}
+use Rattle.lent_part.proofs.put_part.Tie as tie
 
 cast-t11 : tie.Need-cast-t11
 cast-t11 c = omega (arith, inside-at _ (c .before .before .before .before .before .pre) (c .before .before .v .given .1))

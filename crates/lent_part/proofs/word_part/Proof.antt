@@ -4,8 +4,8 @@ use Rattle.bounds.specs.Laws.Places.{word-short}
 use Rattle.view.specs.View.{partSays}
 use Rattle.lent.specs.Laws.Lent.{lent-as}
 use borrow.Author.Needs.{needs}
-use Rattle.lent_rule.proofs.word_part.Statement.{statement}
-use Rattle.lent_rule.proofs.word_part.Tie as tie
+use Rattle.lent_part.proofs.word_part.Statement.{statement}
+use Rattle.lent_part.proofs.word_part.Tie as tie
 
 put-part-requires : tie.Need-put-part-requires
 put-part-requires c κs = word-short _ _ _ _ _ (bytes-all (c .before .before .before .before .args .s .now) (c .before .before .before .shared-slice-known .given)) (c .before .find-word .ensures .0) (c .before .find-word .ensures .1)
