@@ -35,7 +35,8 @@ use Rattle.fixed.specs.declared.Fielded.the-variants as Fielded
 use Rattle.asked.specs.Asked.{asked, askedBy, askedOf, askedFirst}
 use Rattle.view.specs.View.{viewSays}
 use Rattle.name_view.specs.Name.{nameAt, nameView}
-use Rattle.word_view.specs.Word.{wordAt, ruleWord, wordView}
+use Rattle.data_word.specs.Word.{wordAt}
+use Rattle.word_view.specs.Word.{ruleWord, wordView}
 use Rattle.word_view.specs.Laws.Word.{elementWord}
 use Rattle.fixed.specs.Fixed.{fixedAt, fixedFields, fieldsSay, fieldsAnswer}
 use Rattle.bounds.specs.Laws.Refused.{Only, NotLarge, Each, refused-as, as-refused, OfGift, only-planned}

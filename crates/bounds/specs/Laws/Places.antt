@@ -34,7 +34,8 @@ use Rattle.asked.specs.Asked.{asked, askedBy, askedOf, askedFirst}
 use Rattle.view.specs.Laws.View.{Inside}
 use Rattle.view.specs.View.{viewSays}
 use Rattle.name_view.specs.Name.{nameAt, nameView}
-use Rattle.word_view.specs.Word.{wordAt, ruleWord, wordView}
+use Rattle.data_word.specs.Word.{wordAt}
+use Rattle.word_view.specs.Word.{ruleWord, wordView}
 use Rattle.word_view.specs.Laws.Word.{elementWord}
 use Rattle.bounds.specs.Calls.{most, judges, owns, Gift, nothing, aDeck, anElement, givenTo}
 use Rattle.bounds.specs.Laws.Data.{given-end}

@@ -3,8 +3,8 @@ use Rattle.format.specs.declared.Read.the-variants.{Got}
 use Rattle.format.specs.Laws.Skip.{Skipped, skip-start, skip-go, skip-stop, skip-end}
 use Rattle.text.specs.Text.{word}
 use borrow.Author.Needs.{needs}
-use Rattle.word_view.proofs.word_start.Statement.{statement}
-use Rattle.word_view.proofs.word_start.Tie as tie
+use Rattle.data_word.proofs.word_start.Statement.{statement}
+use Rattle.data_word.proofs.word_start.Tie as tie
 
 abbrev Inv-loop : tie.InvT-loop
 Inv-loop s at w i₀ p₀ i p = Skipped (λ i. word) s at w i (Got p 0) × (i ≤ w)

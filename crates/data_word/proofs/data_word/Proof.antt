@@ -1,8 +1,8 @@
 use Rattle.walk.specs.Laws.Elements.{of-kind}
-use Rattle.word_view.specs.Laws.Word.{data-other}
+use Rattle.data_word.specs.Laws.Word.{data-other}
 use borrow.Author.Needs.{needs}
-use Rattle.word_view.proofs.data_word.Statement.{statement}
-use Rattle.word_view.proofs.data_word.Tie as tie
+use Rattle.data_word.proofs.data_word.Statement.{statement}
+use Rattle.data_word.proofs.data_word.Tie as tie
 
 returns : tie.Need-returns
 returns c = (search (needs, of-kind), c .list-word .ensures .1)

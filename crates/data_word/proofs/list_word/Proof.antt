@@ -1,8 +1,8 @@
-use Rattle.word_view.specs.Laws.Word.{list-cut, list-short, list-is}
+use Rattle.data_word.specs.Laws.Word.{list-cut, list-short, list-is}
 use Rattle.view.specs.Laws.View.{no-inside}
 use borrow.Author.Needs.{needs}
-use Rattle.word_view.proofs.list_word.Statement.{statement}
-use Rattle.word_view.proofs.list_word.Tie as tie
+use Rattle.data_word.proofs.list_word.Statement.{statement}
+use Rattle.data_word.proofs.list_word.Tie as tie
 
 returns : tie.Need-returns
 returns c = (search (needs, list-cut), no-inside _ _ (c .no-view .ensures))

@@ -1,8 +1,8 @@
 use Rattle.view.specs.Laws.View.{no-inside, units-inside}
-use Rattle.word_view.specs.Laws.Word.{word-never, word-is}
+use Rattle.data_word.specs.Laws.Word.{word-never, word-is}
 use borrow.Author.Needs.{needs}
-use Rattle.word_view.proofs.word_in.Statement.{statement}
-use Rattle.word_view.proofs.word_in.Tie as tie
+use Rattle.data_word.proofs.word_in.Statement.{statement}
+use Rattle.data_word.proofs.word_in.Tie as tie
 
 returns : tie.Need-returns
 returns c = (word-never _ _ _ _ (c .before .before .before .before .word-start .ensures) (c .before .before .enum-told .given .1), no-inside _ _ (c .no-view .ensures))
