@@ -66,7 +66,7 @@ fn element_in(
     if m == 0 {
         return Outcome::No(Fault::Last, 0);
     }
-    let t = locate::name_end(buf, a);
+    let t = steps::name_end(buf, a);
     let Read::Got(e, _) = t else {
         return format::end_says(t);
     };

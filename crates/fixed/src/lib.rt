@@ -64,7 +64,7 @@ fn kept_at(s: &[u8], at: usize, signature: u64) -> Fielded
 fn fields_at(s: &[u8], k: u64) -> Fielded
     ensures { λ v. ⌜ Tells (now (s .entry)) k fixedAt v ⌝ }
 {
-    let r = locate::start_of(s, k);
+    let r = steps::start_of(s, k);
     let Read::Got(at, _) = r else {
         return no_fields(format::end_says(r));
     };
@@ -72,7 +72,7 @@ fn fields_at(s: &[u8], k: u64) -> Fielded
     let Read::Got(_, signature) = g else {
         return no_fields(format::end_says(g));
     };
-    let t = locate::name_end(s, at);
+    let t = steps::name_end(s, at);
     let Read::Got(e, _) = t else {
         return no_fields(format::end_says(t));
     };

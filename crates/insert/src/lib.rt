@@ -97,7 +97,7 @@ fn insert_copy(
     if q <= j {
         return Outcome::No(Fault::Absent, 1);
     }
-    let t = locate::name_end(second, c);
+    let t = steps::name_end(second, c);
     let Read::Got(name, _) = t else {
         return format::in_given(format::end_says(t));
     };

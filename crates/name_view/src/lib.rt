@@ -16,11 +16,11 @@ ghost use Rattle.name_view.specs.Name.{nameAt, nameView};
 fn name_at(s: &[u8], k: u64) -> View
     ensures { λ v. ⌜ Tells (now (s .entry)) k nameAt v × Inside v (length (now (s .entry))) ⌝ }
 {
-    let r = locate::start_of(s, k);
+    let r = steps::start_of(s, k);
     let Read::Got(at, _) = r else {
         return view::no_view(format::end_says(r));
     };
-    let t = locate::name_end(s, at);
+    let t = steps::name_end(s, at);
     view::units_of(s, t)
 }
 

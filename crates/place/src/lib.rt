@@ -22,7 +22,7 @@ fn open_first(buf: &mut [u8], n: usize, m: u64, b: usize, len: usize)
     requires { ⌜ (0 < m) × (b ≤ n) × (n ≤ 60000) × (len ≤ 200000) ⌝ }
     ensures { λ _. ⌜ Opens n 0 m 7 b len (now (buf .entry)) (now (buf .exit)) ⌝ }
 {
-    let t = locate::name_end(buf, 7);
+    let t = steps::name_end(buf, 7);
     let Read::Got(e, _) = t else {
         return;
     };

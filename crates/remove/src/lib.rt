@@ -7,7 +7,7 @@ ghost use mathlib.Core.Path.{_≡_};
 ghost use Prim.Native.Nat.{ℕ, _+_, _-_, _^_, _≤_, _<_};
 ghost use Rattle.format.specs.ReadWrite.{spelt};
 ghost use Rattle.buffer.specs.Laid.{putIn};
-ghost use Rattle.locate.specs.Laws.Steps.{nameEnd};
+ghost use Rattle.steps.specs.Laws.Steps.{nameEnd};
 ghost use Rattle.plan.specs.Edit.{remove, Edits};
 ghost use Rattle.plan.specs.Laws.Found.{Makes, Within};
 ghost use Rattle.remove.specs.Laws.Remove.{Second, led};
@@ -73,7 +73,7 @@ pub fn remove(edition: u64, buf: &mut [u8], n: usize, k: u64) -> Outcome
     if m == 1 {
         return remove_other(buf, n, m, a, b);
     }
-    let t = locate::name_end(buf, b);
+    let t = steps::name_end(buf, b);
     let Read::Got(e, _) = t else {
         return format::end_says(t);
     };

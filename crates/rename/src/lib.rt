@@ -5,7 +5,7 @@ use format::Read;
 use spot::Spot;
 ghost use mathlib.Core.Path.{_≡_};
 ghost use Prim.Native.Nat.{ℕ, _<_};
-ghost use Rattle.locate.specs.Laws.Steps.{nameEnd};
+ghost use Rattle.steps.specs.Laws.Steps.{nameEnd};
 ghost use Rattle.plan.specs.Edit.{rename, Edits};
 ghost use Rattle.plan.specs.Laws.Found.{Makes};
 ghost use Rattle.rename.specs.Laws.Rename.{Named};
@@ -40,7 +40,7 @@ pub fn rename(edition: u64, buf: &mut [u8], n: usize, k: u64, name: &[u8]) -> Ou
     if m <= k {
         return Outcome::No(Fault::Absent, 0);
     }
-    let t = locate::name_end(buf, a);
+    let t = steps::name_end(buf, a);
     let Read::Got(e, _) = t else {
         return format::end_says(t);
     };

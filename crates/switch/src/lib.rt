@@ -14,7 +14,7 @@ fn switch_at(buf: &mut [u8], n: usize, k: u64, m: u64, a: usize, b: usize, on: b
     if m <= k {
         return Outcome::No(Fault::Absent, 0);
     }
-    let t = locate::name_end(buf, a);
+    let t = steps::name_end(buf, a);
     let Read::Got(e, _) = t else {
         return format::end_says(t);
     };

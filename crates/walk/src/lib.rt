@@ -25,7 +25,7 @@ fn counted_at(s: &[u8], at: usize, i: u64) -> Read
 pub fn elements_of(s: &[u8], at: usize, i: u64) -> Read
     ensures { λ r. ⌜ Elements (now (s .entry)) at i r ⌝ }
 {
-    let t = locate::name_end(s, at);
+    let t = steps::name_end(s, at);
     let Read::Got(e, _) = t else {
         return t;
     };

@@ -52,7 +52,7 @@ fn word_in(buf: &mut [u8], n: usize, product: Product, word: &[u8], m: u64, a: u
     if m == 0 {
         return Outcome::No(Fault::Last, 0);
     }
-    let r = locate::name_end(buf, a);
+    let r = steps::name_end(buf, a);
     let Read::Got(e, _) = r else {
         return format::end_says(r);
     };

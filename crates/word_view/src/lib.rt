@@ -56,7 +56,7 @@ fn rule_word(s: &[u8], at: usize, product: Product, k: u64, e: u64, w: u64) -> V
 fn word_of(s: &[u8], product: Product, k: u64, e: u64, w: u64) -> View
     ensures { λ v. ⌜ Finds product (now (s .entry)) k (ruleWord k e w product) v × Inside v (length (now (s .entry))) ⌝ }
 {
-    let r = locate::start_of(s, k);
+    let r = steps::start_of(s, k);
     let Read::Got(at, _) = r else {
         return view::no_view(format::end_says(r));
     };

@@ -1,4 +1,4 @@
-use Rattle.locate.specs.Laws.Steps.{name-within, name-got}
+use Rattle.steps.specs.Laws.Steps.{name-within, name-got}
 use Rattle.format.specs.Laws.Format.{bytes-all}
 use native.Mathlib.Omega.{arith}
 use Rattle.add_element.specs.Laws.Element.{element-none, element-uncounted, element-full, element-given, element-done}

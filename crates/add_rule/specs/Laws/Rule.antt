@@ -31,7 +31,7 @@ use Rattle.buffer.specs.Laid.{putIn}
 use Rattle.buffer.specs.Laws.Laid.{put-both}
 use Rattle.buffer.specs.Laws.Holds.{Holds, holds-put, holds-behind}
 use Rattle.locate.specs.Laws.Located.{lastOf}
-use Rattle.locate.specs.Laws.Steps.{Sound}
+use Rattle.steps.specs.Laws.Steps.{Sound}
 use Rattle.given.specs.Given.{isText, units, given}
 use Rattle.given.specs.Laws.Element.{first-written}
 use Rattle.plan.specs.Edit.{become, addRule, edited, newRule}

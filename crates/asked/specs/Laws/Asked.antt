@@ -19,7 +19,7 @@ use Rattle.scan.specs.declared.Scan.{Scan}
 use Rattle.scan.specs.declared.Scan.the-variants as Scan
 use Rattle.deck.specs.Deck.{readAs, readBy, readDeck, scanned}
 use Rattle.deck.specs.Written.{startOf}
-use Rattle.locate.specs.Laws.Steps.{Sound, sound-read, Here, here, here-stands, Reached, reached-is, reached-never}
+use Rattle.steps.specs.Laws.Steps.{Sound, sound-read, Here, here, here-stands, Reached, reached-is, reached-never}
 use Rattle.asked.specs.Asked.{askedFirst, askedOf, askedBy, asked}
 
 -- ---- as the code finds it

@@ -21,7 +21,7 @@ use Rattle.format.specs.Laws.Back.{Where, back-got, back-no}
 use Rattle.kind.specs.declared.Product.{Product}
 use Rattle.rule.specs.Rule.{Rule}
 use Rattle.rule.specs.Laws.Places.{rule-parts}
-use Rattle.locate.specs.Laws.Steps.{nameRead, name-end, name-got, name-never, Reached}
+use Rattle.steps.specs.Laws.Steps.{nameRead, name-end, name-got, name-never, Reached}
 use Rattle.asked.specs.Laws.Asked.{Tells, finds, finds-never}
 use Rattle.fixed.specs.declared.Fielded.{Fielded}
 use Rattle.fixed.specs.declared.Fielded.the-variants.{Is, No}

@@ -2,7 +2,7 @@ use Prim.Native.Nat.{_+_}
 use Rattle.insert.specs.Laws.Insert.{copies-place, copies-rule, copies-unnamed, copies-is, copy-sizes}
 use native.Mathlib.Omega.{arith}
 use mathlib.Core.Path.{refl}
-use Rattle.locate.specs.Laws.Steps.{name-got}
+use Rattle.steps.specs.Laws.Steps.{name-got}
 use borrow.Author.Needs.{needs}
 use Rattle.insert.proofs.insert_copy.Statement.{statement}
 use Rattle.insert.proofs.insert_copy.Tie as tie

@@ -36,7 +36,7 @@ use Rattle.spot.specs.declared.Spot.{Spot}
 use Rattle.spot.specs.declared.Spot.the-variants as Spot
 use Rattle.spot.specs.Laws.Spot.{spotSays}
 use Rattle.locate.specs.Laws.Located.{located}
-use Rattle.locate.specs.Laws.Steps.{Sound, sound-read, Here, here, here-stands, nameRead, nameEnd, name-end, name-never, start-within, start-past}
+use Rattle.steps.specs.Laws.Steps.{Sound, sound-read, Here, here, here-stands, nameRead, nameEnd, name-end, name-never, start-within, start-past}
 use Rattle.plan.specs.Edit.{Plan, become, refuse, refuseGiven, atCopy, atSecond, insert, edited}
 use Rattle.plan.specs.Laws.Found.{Makes, Does, Within, found, ground, found-within}
 use Rattle.plan.specs.Laws.Makes.{made-no, made-given, made-out, made-in}

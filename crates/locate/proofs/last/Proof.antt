@@ -1,6 +1,6 @@
 use mathlib.Core.Path.{refl}
 use Rattle.format.specs.Laws.Format.{bytes-all}
-use Rattle.locate.specs.Laws.Steps.{located-no, located-is}
+use Rattle.locate.specs.Laws.Spots.{located-no, located-is}
 use native.Mathlib.Omega.{arith}
 use borrow.Author.Needs.{needs}
 use Rattle.locate.proofs.last.Statement.{statement}

@@ -1,4 +1,4 @@
-use Rattle.locate.specs.Laws.Steps.{spots-past, spots-unreached, spots-unended, spots-is}
+use Rattle.locate.specs.Laws.Spots.{spots-past, spots-unreached, spots-unended, spots-is}
 use borrow.Author.Needs.{needs}
 use Rattle.locate.proofs.spot_of.Statement.{statement}
 use Rattle.locate.proofs.spot_of.Tie as tie

@@ -10,7 +10,7 @@ use Rattle.format.specs.declared.Read.the-variants as Read
 use Rattle.format.specs.Laws.Back.{Where, stands-room}
 use Rattle.rule.specs.Rule.{rule}
 use Rattle.rule.specs.Laws.Places.{rule-parts}
-use Rattle.locate.specs.Laws.Steps.{Reached, nameRead, name-read}
+use Rattle.steps.specs.Laws.Steps.{Reached, nameRead, name-read}
 use Rattle.asked.specs.Laws.Asked.{Tells, finds, finds-never}
 use Rattle.view.specs.declared.View.{View}
 use Rattle.view.specs.Laws.View.{unitsOf, units-of}

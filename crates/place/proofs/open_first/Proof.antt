@@ -1,6 +1,6 @@
 use native.Mathlib.Omega.{arith}
 use Rattle.place.specs.Laws.Place.{opens-unnamed, opens-not, opens-shift}
-use Rattle.locate.specs.Laws.Steps.{name-got}
+use Rattle.steps.specs.Laws.Steps.{name-got}
 use borrow.Author.Needs.{needs}
 use Rattle.place.proofs.open_first.Statement.{statement}
 use Rattle.place.proofs.open_first.Tie as tie

@@ -25,7 +25,7 @@ use Rattle.deck.specs.Written.{startOf}
 use Rattle.buffer.specs.Laid.{putIn}
 use Rattle.buffer.specs.Laws.Laid.{opened, moved, up}
 use Rattle.buffer.specs.Laws.Holds.{Holds, Gap, holds-start, holds-put, holds-open, holds-up}
-use Rattle.locate.specs.Laws.Steps.{Sound, Here, here, nameRead, nameEnd, start-within}
+use Rattle.steps.specs.Laws.Steps.{Sound, Here, here, nameRead, nameEnd, start-within}
 use Rattle.plan.specs.Laws.Makes.{name-ends, name-there}
 use Rattle.head.specs.Laws.Head.{head-long, head-short}
 

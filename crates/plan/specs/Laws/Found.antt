@@ -26,7 +26,7 @@ use Rattle.spot.specs.declared.Spot.{Spot}
 use Rattle.spot.specs.declared.Spot.the-variants as Spot
 use Rattle.spot.specs.Laws.Spot.{spotSays}
 use Rattle.locate.specs.Laws.Located.{located}
-use Rattle.locate.specs.Laws.Steps.{Sound, sound-read, start-within}
+use Rattle.steps.specs.Laws.Steps.{Sound, sound-read, start-within}
 use Rattle.plan.specs.Edit.{Edit, Plan, refuse, edited, inRoom, plan, planBy, planned, says, leaves, Edits}
 
 -- "1, 15, 2 to 13 on its deck", then where the rule stands that is asked for

@@ -17,7 +17,7 @@ use Rattle.rule.specs.Rule.{Rule}
 use Rattle.deck.specs.Laws.Written.{rules}
 use Rattle.deck.specs.Written.{startOf}
 use Rattle.locate.specs.Laws.Located.{lastOf}
-use Rattle.locate.specs.Laws.Steps.{Here, here, nameRead, nameEnd}
+use Rattle.steps.specs.Laws.Steps.{Here, here, nameRead, nameEnd}
 use Rattle.plan.specs.Edit.{Edit, Plan, edited, atLast}
 use Rattle.plan.specs.Laws.Found.{MakesAs, Does}
 use Rattle.plan.specs.Laws.Makes.{name-ends, name-there, replaced-long, at-last, no-last, made-no}

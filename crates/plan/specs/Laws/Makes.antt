@@ -27,7 +27,7 @@ use Rattle.buffer.specs.Laid.{laid}
 use Rattle.room.specs.Room.{roomFor}
 use Rattle.room.specs.Laws.Room.{room-is, roomy}
 use Rattle.buffer.specs.Laws.Holds.{Holds}
-use Rattle.locate.specs.Laws.Steps.{Sound, Here, here, nameRead, nameEnd, name-end, name-never}
+use Rattle.steps.specs.Laws.Steps.{Sound, Here, here, nameRead, nameEnd, name-end, name-never}
 use Rattle.given.specs.Given.{isText}
 use Rattle.plan.specs.Edit.{Edit, Plan, become, refuse, refuseGiven, atRule, atLast, ifText, unlessFull, atGiven, ifDone, says, leaves}
 use Rattle.plan.specs.Laws.Found.{Makes, Does}

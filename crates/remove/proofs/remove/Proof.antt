@@ -2,7 +2,7 @@ use native.Mathlib.Omega.{arith}
 use Rattle.format.specs.Laws.Format.{bytes-all}
 use Rattle.plan.specs.Laws.Found.{edit-no, edit-done, found-within}
 use Rattle.remove.specs.Laws.Remove.{remove-absent, remove-unnamed, found-next}
-use Rattle.locate.specs.Laws.Steps.{name-got}
+use Rattle.steps.specs.Laws.Steps.{name-got}
 use borrow.Author.Needs.{needs}
 use Rattle.remove.proofs.remove.Statement.{statement}
 use Rattle.remove.proofs.remove.Tie as tie

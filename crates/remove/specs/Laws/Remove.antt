@@ -30,7 +30,7 @@ use Rattle.buffer.specs.Laws.Laid.{opened, moved, down}
 use Rattle.buffer.specs.Laws.Holds.{Holds, Gap, holds-start, holds-put, holds-down, holds-open, holds-fill}
 use Rattle.spot.specs.declared.Spot.{Spot}
 use Rattle.spot.specs.declared.Spot.the-variants as Spot
-use Rattle.locate.specs.Laws.Steps.{Here, here, nameRead, nameEnd, name-end, size-read, size-is}
+use Rattle.steps.specs.Laws.Steps.{Here, here, nameRead, nameEnd, name-end, size-read, size-is}
 use Rattle.plan.specs.Edit.{remove, edited, become}
 use Rattle.plan.specs.Laws.Found.{Makes, Does, found, ground, Ground}
 use Rattle.plan.specs.Laws.Last.{rules-none}

@@ -1,6 +1,6 @@
 use native.Mathlib.Omega.{arith}
 use Rattle.format.specs.Laws.Format.{bytes-all}
-use Rattle.locate.specs.Laws.Steps.{name-got}
+use Rattle.steps.specs.Laws.Steps.{name-got}
 use Rattle.plan.specs.Laws.Found.{edit-no, edit-done}
 use Rattle.plan.specs.Laws.Makes.{makes-unnamed}
 use Rattle.rename.specs.Laws.Rename.{rename-absent, found-named}

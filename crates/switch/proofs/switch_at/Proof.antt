@@ -1,5 +1,5 @@
 use native.Mathlib.Omega.{arith}
-use Rattle.locate.specs.Laws.Steps.{name-got}
+use Rattle.steps.specs.Laws.Steps.{name-got}
 use Rattle.plan.specs.Laws.Makes.{makes-unnamed}
 use Rattle.switch.specs.Laws.Switch.{switch-absent, switch-done}
 use borrow.Author.Needs.{needs}

@@ -18,7 +18,7 @@ use Rattle.deck.specs.Laws.Written.{before, rules}
 use Rattle.deck.specs.Written.{startOf}
 use Rattle.buffer.specs.Laid.{putIn}
 use Rattle.buffer.specs.Laws.Holds.{Holds, holds-start, holds-put}
-use Rattle.locate.specs.Laws.Steps.{Here, here, nameEnd}
+use Rattle.steps.specs.Laws.Steps.{Here, here, nameEnd}
 use Rattle.plan.specs.Edit.{switch, edited, switched}
 use Rattle.plan.specs.Laws.Found.{Makes, Does}
 use Rattle.plan.specs.Laws.Makes.{name-ends, sound-small, sound-short, replaced-long, written-here, at-rule, no-rule, made-no, made-is}

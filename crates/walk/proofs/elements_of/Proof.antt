@@ -1,5 +1,5 @@
 use native.Mathlib.Omega.{arith}
-use Rattle.locate.specs.Laws.Steps.{name-got}
+use Rattle.steps.specs.Laws.Steps.{name-got}
 use Rattle.walk.specs.Laws.Elements.{elements-unnamed, elements-short, elements-go}
 use borrow.Author.Needs.{needs}
 use Rattle.walk.proofs.elements_of.Statement.{statement}

@@ -25,7 +25,7 @@ use Rattle.element.specs.Element.{Element}
 use Rattle.rule.specs.Rule.{Rule, rule, body, head, placed, elementsIn}
 use Rattle.rule.specs.Places.{elementsAt, dataAt}
 use Rattle.rule.specs.Laws.Places.{body-parts, behind-count, rule-parts, rule-elements, placed-parts, data-first, data-later}
-use Rattle.locate.specs.Laws.Steps.{nameRead, nameEnd, name-end, name-never}
+use Rattle.steps.specs.Laws.Steps.{nameRead, nameEnd, name-end, name-never}
 use Rattle.walk.specs.Elements.{ofFirst, ofElement}
 
 -- ---- the number of elements and where they start

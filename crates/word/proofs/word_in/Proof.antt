@@ -1,5 +1,5 @@
 use Rattle.word.specs.Laws.Word.{word-none, word-no-list, word-full, word-text, word-done}
-use Rattle.locate.specs.Laws.Steps.{name-within, name-got}
+use Rattle.steps.specs.Laws.Steps.{name-within, name-got}
 use Rattle.format.specs.Laws.Format.{bytes-all}
 use borrow.Author.Tests.{not-true, not-false}
 use mathlib.Core.Path.{sym, _∙_}

@@ -1,7 +1,7 @@
-use Rattle.locate.specs.Laws.Steps.{following}
+use Rattle.steps.specs.Laws.Steps.{following}
 use borrow.Author.Needs.{needs}
-use Rattle.locate.proofs.end_of.Statement.{statement}
-use Rattle.locate.proofs.end_of.Tie as tie
+use Rattle.steps.proofs.end_of.Statement.{statement}
+use Rattle.steps.proofs.end_of.Tie as tie
 
 returns : tie.Need-returns
 returns c = search (needs, following)

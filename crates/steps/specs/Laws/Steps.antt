@@ -11,10 +11,9 @@ use borrow.Author.Tests.{le-leb, lt-leb, leb-true}
 use lib.Seq.{take-all, drop-at, length-take-le}
 use Rattle.format.specs.declared.Fault.{Fault}
 use Rattle.format.specs.declared.Fault.the-variants as Fault
-use Rattle.format.specs.declared.Outcome.{Outcome}
 use Rattle.format.specs.declared.Read.{Read}
 use Rattle.format.specs.declared.Read.the-variants.{Got, No}
-use Rattle.format.specs.Format.{Answer, got, refused, Bytes, pick}
+use Rattle.format.specs.Format.{got, Bytes, pick}
 use Rattle.format.specs.ReadWrite.{eachWrite}
 use Rattle.format.specs.Laws.ReadWrite.{length-spelt}
 use Rattle.format.specs.Combinators.{number}
@@ -25,24 +24,14 @@ use Rattle.format.specs.Row.{startIn}
 use Rattle.format.specs.Laws.Skip.{Skipped, skip-start, skip-step, skip-end, skip-nth, skip-is, skip-never, Nth, nth, start-more}
 use Rattle.text.specs.Text.{string}
 use Rattle.kind.specs.declared.Product.{Product}
-use Rattle.kind.specs.declared.Edition.{Edition}
-use Rattle.kind.specs.declared.Edition.the-variants as Edition
-use Rattle.kind.specs.Kinds.{editionOf}
 use Rattle.rule.specs.Rule.{Rule, rule}
 use Rattle.rule.specs.Laws.Parts.{front, back, sizeOf, body-size, rule-is}
 use Rattle.rule.specs.Places.{ruleBytes}
 use Rattle.rule.specs.Laws.Places.{rule-parts}
-use Rattle.deck.specs.Deck.{deck, readAs, readBy, readDeck, scanned}
+use Rattle.deck.specs.Deck.{deck, readAs}
 use Rattle.deck.specs.Laws.Deck.{deck-row, read-writes-back}
-use Rattle.scan.specs.declared.Scan.{Scan}
-use Rattle.scan.specs.declared.Scan.the-variants as Scan
-use Rattle.scan.specs.Scan.{scanSays}
 use Rattle.deck.specs.Written.{written, startOf}
 use Rattle.deck.specs.Laws.Written.{written-as, written-is, rules, rules-cons, before, before-long, start-is, start-as}
-use Rattle.spot.specs.declared.Spot.{Spot}
-use Rattle.spot.specs.declared.Spot.the-variants as Spot
-use Rattle.spot.specs.Laws.Spot.{noSpot}
-use Rattle.locate.specs.Laws.Located.{located}
 
 -- ---- a sound deck: its rules fit, and it is what they are written as
 pub record Sound (p : Product) (s : List ℕ) (rs : List Rule) : Type 0 where
@@ -93,7 +82,7 @@ here-stands p s rs k h =
     let w : front (h .r) ++ (back k (h .r .elements) ++ L) ≡ rule p k .write (h .r) ++ L = rw (rule-is p k (h .r), append-assoc) in
     (L, record { fit = h .fits; is = ap (drop (startOf rs k)) (h .is) ∙ drop-at (before (length rs) (take k rs)) _ (startOf rs k) (h .starts) ∙ w })
 
-here-at : (p : Product) (s : List ℕ) (rs : List Rule) (k a : ℕ) (h : Here p s rs k) → a ≡ startOf rs k → Held (rule p k) s a (h .r)
+pub here-at : (p : Product) (s : List ℕ) (rs : List Rule) (k a : ℕ) (h : Here p s rs k) → a ≡ startOf rs k → Held (rule p k) s a (h .r)
 here-at p s rs k a h e = rw e (here-stands p s rs k h)
 
 -- ---- a rule that stands at a place, as it is stepped over
@@ -244,7 +233,7 @@ module _ (s : List ℕ) (k : ℕ) where
     unfolding Reached
     reached-never h = skip-never (rule p) s 7 k i (w p) rs [] (sound-row p s rs o) l h
 
--- ---- what is answered
+-- ---- past the last rule, and within the deck
 
 -- past the last rule there is only the end of the deck
 pub start-past : (p : Product) (s : List ℕ) (rs : List Rule) (k : ℕ) → Sound p s rs → length rs ≤ k → startOf rs k ≡ length s
@@ -269,56 +258,3 @@ start-within p s rs k o =
         let L = rules (k + 1) (h .later) in
         let b = back k (h .r .elements) in
         (omega (arith, h .ends), omega (arith, h .ends, h .starts, ap length (h .is), length-append B (front (h .r) ++ (b ++ L)), length-append (front (h .r)) (b ++ L), length-append b L))
-
--- whatever n rules a sound deck has, w is where rule k stands
-unfoldable pub Spots : List ℕ → ℕ → ℕ → Spot → Type 0
-Spots s n k w = (p : Product) (rs : List Rule) (m : ℕ) → Sound p s rs → n ≡ length rs → w ≡ located (λ xs. k) (got rs m)
-
-module _ (s : List ℕ) (n k : ℕ) where
-  pub spots-past : n ≤ k → Spots s n k (Spot.Is n (length s) (length s))
-  unfolding Spots
-  spots-past l p rs m o e = rw (start-past p s rs k o (omega arith), start-past p s rs (k + 1) o (omega arith), e)
-
-  -- f is what its start was told as, e its end
-  module _ {f : Read} where
-    pub spots-unreached : (w : Spot) {c : Fault} {q : ℕ} → k < n → Reached s k k f → f ≡ No q c → Spots s n k w
-    unfolding Spots
-    spots-unreached w l g h p rs m o x = reached-never s k k g p rs o (omega arith) h
-
-    module _ {u a : ℕ} (l : k < n) (g : Reached s k k f) (h : f ≡ Got a u) where
-      stands : (p : Product) (rs : List Rule) → Sound p s rs → n ≡ length rs → (a ≡ startOf rs k) × Here p s rs k
-      stands p rs o x = (reached-is s k k g p rs o (omega arith) h, here p s rs k o (omega arith))
-
-      pub spots-unended : (w : Spot) {e : Read} {c : Fault} {q : ℕ} → Follows s a e → e ≡ No q c → Spots s n k w
-      unfolding Spots
-      spots-unended w i j p rs m o x = let z = stands p rs o x in follows-never s a i p k j (z .1 .r) (here-at p s rs k a (z .1) (z .0))
-
-      pub spots-is : {e : Read} {v b : ℕ} → Follows s a e → e ≡ Got b v → Spots s n k (Spot.Is n a b)
-      unfolding Spots Where
-      spots-is {b = b} i j p rs m o x =
-          let z = stands p rs o x in
-          let r = z .1 .r in
-          let eb : b ≡ startOf rs (k + 1) = omega (arith, follows-got s a i p k j r (here-at p s rs k a (z .1) (z .0)), z .0, z .1 .ends, ap length (rule-is p k r), length-append (front r) (back k (r .elements))) in
-          rw (x, z .0, eb)
-
--- k is the rule that is asked for
-module _ (k : List Rule → ℕ) (edition : ℕ) (s : List ℕ) {c : Scan} where
-  pub located-no : {o : Outcome} {w : Spot} {d : Fault} {q : ℕ} → c ≡ scanned (readDeck edition s) → c ≡ Scan.No d q → o ≡ scanSays c → w ≡ noSpot o → w ≡ located k (readDeck edition s)
-  located-no {d = d} {q = q} e h f g = g ∙ ap noSpot (f ∙ ap scanSays h) ∙ go (readDeck edition s) (sym h ∙ e)
-    where
-      go : (a : Answer (List Rule)) → Scan.No d q ≡ scanned a → Spot.No d q ≡ located k a
-      go (got rs m) z = absurd (let y : _≡_ {A = ℕ} 0 1 = cc in omega arith)
-      go (refused x y) z = cc
-
-  -- an accepted deck is sound
-  pub located-is : (j : ℕ) {w : Spot} {n t m : ℕ} → Bytes s → c ≡ scanned (readDeck edition s) → c ≡ Scan.Is n t → Spots s m j w → m ≡ n → ((rs : List Rule) → n ≡ length rs → j ≡ k rs) → w ≡ located k (readDeck edition s)
-  unfolding readDeck readBy Spots
-  located-is j {w} {n} {t} bs e h f en ek = by (editionOf edition) (sym h ∙ e)
-    where
-      go : (p : Product) (a : Answer (List Rule)) → readAs p s ≡ a → Scan.Is n t ≡ scanned a → w ≡ located k a
-      go p (got rs m) r z = let l : n ≡ length rs = cc in rw (← ek rs l) (f p rs m (sound-read p s rs m bs r) (en ∙ l))
-      go p (refused x y) r z = absurd (let u : _≡_ {A = ℕ} 0 1 = cc in omega arith)
-
-      by : (o : Edition) → Scan.Is n t ≡ scanned (readBy o s) → w ≡ located k (readBy o s)
-      by (Edition.Of p) z = go p (readAs p s) refl z
-      by Edition.Unknown z = absurd (let u : _≡_ {A = ℕ} 0 1 = cc in omega arith)

@@ -1,9 +1,9 @@
 use borrow.Author.Needs.{needs}
 use Prim.Native.Nat.{_-_, _≤_}
 use Rattle.format.specs.declared.Read.the-variants.{Got}
-use Rattle.locate.specs.Laws.Steps.{Reached, reached-start, reached-go, reached-stop, reached-end}
-use Rattle.locate.proofs.start_of.Statement.{statement}
-use Rattle.locate.proofs.start_of.Tie as tie
+use Rattle.steps.specs.Laws.Steps.{Reached, reached-start, reached-go, reached-stop, reached-end}
+use Rattle.steps.proofs.start_of.Statement.{statement}
+use Rattle.steps.proofs.start_of.Tie as tie
 
 abbrev Inv-loop : tie.InvT-loop
 Inv-loop s k i₀ p₀ i p = Reached s k i (Got p 0) × (i ≤ k)

@@ -1,7 +1,7 @@
-use Rattle.locate.specs.Laws.Steps.{name-past, name-is}
+use Rattle.steps.specs.Laws.Steps.{name-past, name-is}
 use borrow.Author.Needs.{needs}
-use Rattle.locate.proofs.name_end.Statement.{statement}
-use Rattle.locate.proofs.name_end.Tie as tie
+use Rattle.steps.proofs.name_end.Statement.{statement}
+use Rattle.steps.proofs.name_end.Tie as tie
 
 returns : tie.Need-returns
 returns c = search (needs, name-past)
