@@ -78,10 +78,12 @@ impl Case<'_> {
         buf.resize(ROOM, 0xA5);
         let archive = |b: &mut Vec<u8>| door::edit(edition, b, n, &edit);
         match &edit {
-            Edit::Switch { k, on } => self.compare("switch", buf, archive, |b| plain::switch(edition, b, n, *k, *on)),
-            Edit::Remove { k } => self.compare("remove", buf, archive, |b| plain::remove(edition, b, n, *k)),
+            Edit::Switch { k, on } => {
+                self.compare("switch", buf, archive, |b| plain::edit::switch(edition, b, n, *k, *on))
+            }
+            Edit::Remove { k } => self.compare("remove", buf, archive, |b| plain::edit::remove(edition, b, n, *k)),
             Edit::Insert { k, second, j } => {
-                self.compare("insert", buf, archive, |b| plain::insert(edition, b, n, *k, second, *j))
+                self.compare("insert", buf, archive, |b| plain::edit::insert(edition, b, n, *k, second, *j))
             }
             _ => unreachable!(),
         }

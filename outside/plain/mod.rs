@@ -4,11 +4,9 @@
 #![forbid(unsafe_code)]
 
 mod check;
-mod edit;
+pub mod edit;
 mod step;
 mod tables;
-
-pub use edit::{insert, remove, switch};
 
 pub struct Refused(u64, usize);
 pub type Answer<T> = Result<T, Refused>;
