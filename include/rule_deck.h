@@ -16,7 +16,7 @@ extern "C" {
 
 /* The version of this header. Header and archive belong together where rule_deck_version() answers the same. */
 #define RULE_DECK_MAJOR 1
-#define RULE_DECK_MINOR 0
+#define RULE_DECK_MINOR 1
 #define RULE_DECK_VERSION (256 * RULE_DECK_MAJOR + RULE_DECK_MINOR)
 
 /* The editions. */
@@ -250,6 +250,7 @@ enum rule_deck_rule_column {
     RULE_DECK_RULE_END,
     RULE_DECK_RULE_NAME,     /* the first byte of the name's units */
     RULE_DECK_RULE_ELEMENTS, /* their number */
+    RULE_DECK_RULE_ENABLED,  /* the first byte of Enabled; in the deck that byte is 1 for on, 0 for off */
     RULE_DECK_RULE_WIDTH
 };
 

@@ -49,9 +49,10 @@ static void print_rule(uint64_t k, const uint32_t *row) {
     uint32_t name[RULE_DECK_PART_WIDTH], word[RULE_DECK_PART_WIDTH];
     done("name", rule_deck_name_part(EDITION, deck, length, k, name, RULE_DECK_PART_WIDTH));
     done("word", rule_deck_word_part(EDITION, deck, length, k, 1, 0, word, RULE_DECK_PART_WIDTH));
-    printf("rule %" PRIu64 ", named %c, from %u to %u, %u elements; its word is %u bytes from %u on\n", k,
-           deck[name[RULE_DECK_PART_FIRST]], row[RULE_DECK_RULE_START], row[RULE_DECK_RULE_END],
-           row[RULE_DECK_RULE_ELEMENTS], word[RULE_DECK_PART_BYTES], word[RULE_DECK_PART_FIRST]);
+    printf("rule %" PRIu64 ", named %c, %s, from %u to %u, %u elements; its word is %u bytes from %u on\n", k,
+           deck[name[RULE_DECK_PART_FIRST]], deck[row[RULE_DECK_RULE_ENABLED]] ? "on" : "off",
+           row[RULE_DECK_RULE_START], row[RULE_DECK_RULE_END], row[RULE_DECK_RULE_ELEMENTS],
+           word[RULE_DECK_PART_BYTES], word[RULE_DECK_PART_FIRST]);
 }
 
 static void print(void) {

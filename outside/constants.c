@@ -1,4 +1,5 @@
-/* The header's constants against the archive: its version, the codes' messages, the widths of rows, the limits. */
+/* The header's constants against the archive: its version, the codes' messages, the widths of rows, the place of a
+ * rule's state, the limits. */
 #include <string.h>
 
 #include "answer.h"
@@ -75,6 +76,24 @@ static void widths(void) {
     FITS(RULE_DECK_VALUE_WIDTH, rule_deck_value(EDITION, LIST, no_words, sizeof no_words, v, n));
 }
 
+static bool is_on(void) {
+    uint32_t rule[RULE_DECK_RULE_WIDTH], list[RULE_DECK_ELEMENT_WIDTH];
+    done("read", rule_deck_read(EDITION, deck, length, rule, RULE_DECK_RULE_WIDTH, list, RULE_DECK_ELEMENT_WIDTH));
+    return deck[rule[RULE_DECK_RULE_ENABLED]] == 1;
+}
+
+/* The state is at its column's place, whichever form the name's String has. */
+static void states(void) {
+    for (int i = 0; i < 4; i++) {
+        bool on = i % 2 == 0;
+        length = done("rename", rename_rule(i < 2 ? 0 : RULE_DECK_MOST_TEXT));
+        length = done("switch", rule_deck_switch(EDITION, deck, sizeof deck, length, 0, on));
+        if (is_on() == on) continue;
+        printf("the state is not at RULE_DECK_RULE_ENABLED\n");
+        exit(1);
+    }
+}
+
 /* Repeats an edit until it is refused: there were that many before. */
 static void up_to(uint64_t had, uint64_t most, uint64_t (*edit)(void), unsigned code) {
     for (; had < most; had++) length = done("a limit", edit());
@@ -112,6 +131,7 @@ int main(void) {
     messages();
     build();
     widths();
+    states();
     counts();
     bytes();
     return 0;

@@ -1,9 +1,8 @@
 //! The lister in plain Rust: one reading into tables, lines into one buffer, one write at the end.
 mod plain;
 
+use plain::tables::RULE_WIDTH;
 use std::io::{Read, Write};
-
-const RULE_WIDTH: usize = 4;
 
 fn list(deck: &[u8], out: &mut impl Write) -> std::io::Result<()> {
     let (mut rules, mut elements) = ([0u32; 256 * RULE_WIDTH], [0u32; 4096 * 4]);
@@ -15,11 +14,8 @@ fn list(deck: &[u8], out: &mut impl Write) -> std::io::Result<()> {
     let mut all = 0;
     let n = answer as usize / 256;
     for (k, row) in rules.chunks_exact(RULE_WIDTH).take(n).enumerate() {
-        let units = match deck[row[0] as usize + 4] {
-            255 => 255,
-            short => short as usize,
-        };
-        let state = if deck[row[2] as usize + 2 * units] == 1 { "ON" } else { "OFF" };
+        let units = (row[4] - row[2]) / 2;
+        let state = if deck[row[4] as usize] == 1 { "ON" } else { "OFF" };
         writeln!(out, "RULE {k} {state} {units} {}", row[3])?;
         for (j, row) in elements.chunks_exact(4).skip(all).take(row[3] as usize).enumerate() {
             writeln!(out, "ELEM {j} {:08X} {}", row[0], row[3] - row[2])?;

@@ -141,22 +141,21 @@ static void show_element(uint64_t k, uint64_t e, const uint32_t *row) {
     putchar('\n');
 }
 
-static void show_rule(uint64_t k) {
-    uint32_t fields[RULE_DECK_FIELDS_WIDTH], name[RULE_DECK_PART_WIDTH];
-    done("a rule's fields", rule_deck_fields(edition, deck, deck_len, k, fields, RULE_DECK_FIELDS_WIDTH));
+static void show_rule(uint64_t k, const uint32_t *row) {
+    uint32_t name[RULE_DECK_PART_WIDTH];
     done("a name", rule_deck_name_part(edition, deck, deck_len, k, name, RULE_DECK_PART_WIDTH));
-    printf("rule %" PRIu64 ", %s: [", k, fields[RULE_DECK_FIELDS_ENABLED] ? "on" : "off");
+    printf("rule %" PRIu64 ", %s: [", k, deck[row[RULE_DECK_RULE_ENABLED]] ? "on" : "off");
     put_units(name);
     printf("]\n");
 }
 
 /* The rows of all elements follow each other, rule by rule. */
 static void show(uint64_t count) {
-    const uint32_t *row = elements;
-    for (uint64_t k = 0; k < count; k++) {
-        show_rule(k);
-        uint32_t n = rules[RULE_DECK_RULE_WIDTH * k + RULE_DECK_RULE_ELEMENTS];
-        for (uint32_t e = 0; e < n; e++, row += RULE_DECK_ELEMENT_WIDTH) show_element(k, e, row);
+    const uint32_t *rule = rules, *element = elements;
+    for (uint64_t k = 0; k < count; k++, rule += RULE_DECK_RULE_WIDTH) {
+        show_rule(k, rule);
+        uint32_t n = rule[RULE_DECK_RULE_ELEMENTS];
+        for (uint32_t e = 0; e < n; e++, element += RULE_DECK_ELEMENT_WIDTH) show_element(k, e, element);
     }
 }
 

@@ -18,12 +18,13 @@ pub struct Rule {
     pub elements: Vec<Element>,
 }
 
-/// Where a rule stands: start and end, first byte and end of its name's units, and its elements.
+/// Where a rule stands: start and end, first byte and end of its name's units, Enabled, and its elements.
 #[derive(Clone, Debug, PartialEq, Eq)]
 pub struct RulePlace {
     pub start: usize,
     pub end: usize,
     pub name: (usize, usize),
+    pub enabled: usize,
     pub elements: Vec<ElementPlace>,
 }
 
@@ -54,6 +55,7 @@ fn read_rule(r: &mut Reader, edition: u64, first: bool) -> Answer<(Rule, RulePla
     let signature = r.word()?;
     let (name, name_first) = r.string()?;
     let name_place = (name_first, r.at);
+    let enabled = r.at;
     let on = r.flag()?;
     let unknown = [r.word()?, r.word()?, r.word()?, r.word()?];
     let size_place = r.here();
@@ -74,7 +76,7 @@ fn read_rule(r: &mut Reader, edition: u64, first: bool) -> Answer<(Rule, RulePla
         return refuse(12, size_place);
     }
     let rule = Rule { fixed: Fixed { signature, on, unknown }, name, elements };
-    Ok((rule, RulePlace { start, end: r.at, name: name_place, elements: places }))
+    Ok((rule, RulePlace { start, end: r.at, name: name_place, enabled, elements: places }))
 }
 
 /// A read: 1, then 2, then left to right, 13 after the last rule.

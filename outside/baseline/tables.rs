@@ -1,20 +1,30 @@
 //! Reading into lent tables, views of names and words, fixed fields.
 use super::deck::{read, Deck, Fixed, RulePlace};
+use super::element::ElementPlace;
 use super::{refuse, Answer};
 
-fn rule_row(place: &RulePlace) -> [u32; 4] {
-    [place.start as u32, place.end as u32, place.name.0 as u32, place.elements.len() as u32]
+/// Numbers of a row.
+pub const RULE_WIDTH: usize = 5;
+pub const ELEMENT_WIDTH: usize = 4;
+
+/// Start, end, first byte of the name's units, number of elements, offset of Enabled.
+fn rule_row(place: &RulePlace) -> [u32; RULE_WIDTH] {
+    [place.start, place.end, place.name.0, place.elements.len(), place.enabled].map(|n| n as u32)
 }
 
 fn rule_rows(deck: &Deck) -> Vec<u32> {
     deck.places.iter().flat_map(rule_row).collect()
 }
 
+fn element_row(identifier: u32, rule: usize, at: &ElementPlace) -> [u32; ELEMENT_WIDTH] {
+    [identifier, rule as u32, at.start as u32, at.end as u32]
+}
+
 fn element_rows(deck: &Deck) -> Vec<u32> {
     let mut rows = Vec::new();
     for (k, (rule, place)) in deck.rules.iter().zip(&deck.places).enumerate() {
         for (element, at) in rule.elements.iter().zip(&place.elements) {
-            rows.extend([element.identifier, k as u32, at.start as u32, at.end as u32]);
+            rows.extend(element_row(element.identifier, k, at));
         }
     }
     rows

@@ -1,13 +1,13 @@
 //! The baseline held against document 01's own examples, and against itself by another way.
 use super::date::{accepted, civil, Civil};
-use super::deck::{check, read, write, Rule};
+use super::deck::{check, read, write, Fixed, Rule};
 use super::edit::{edit, edited, start, Edit};
 use super::element::{data_bytes, Data, Element};
 use super::kind::{alone, identifiers, identifiers_of, row, Kind};
 use super::lister::list;
 use super::random::{self, Random};
 use super::results;
-use super::tables::{fill, fixed, name, part, word};
+use super::tables::{fill, fixed, name, part, word, ELEMENT_WIDTH, RULE_WIDTH};
 use super::value::{put_value, value_of, Value};
 use super::{coded, refuse, Answer, DESK, STUDIO};
 
@@ -35,17 +35,39 @@ fn document_deck() {
     }
     assert_eq!(list(&deck), "DECK 1 70\nRULE 0 ON 1 1\nELEM 0 000001F5 8\nEND 1 1\n");
     assert_eq!(list(&deck[..69]), "REFUSED 3 66\n");
-    let (mut rules, mut elements) = ([7; 5], [7; 6]);
+    let (mut rules, mut elements) = ([7; 6], [7; 6]);
     assert_eq!(fill(STUDIO, &deck, &mut rules, &mut elements), Ok(1));
-    assert_eq!(rules, [7, 70, 12, 1, 7]);
+    assert_eq!(rules, [7, 70, 12, 1, 14, 7]);
     assert_eq!(elements, [0x1F5, 0, 62, 70, 7, 7]);
-    assert_eq!(fill(STUDIO, &deck, &mut rules[..3], &mut []), refuse(14, 0));
-    assert_eq!(fill(STUDIO, &deck, &mut rules[..4], &mut elements[..3]), refuse(14, 1));
+    assert_eq!(fill(STUDIO, &deck, &mut rules[..4], &mut []), refuse(14, 0));
+    assert_eq!(fill(STUDIO, &deck, &mut rules[..5], &mut elements[..3]), refuse(14, 1));
     assert_eq!(part(&deck, name(STUDIO, &deck, 0)), [0x41, 0]);
     assert_eq!(name(STUDIO, &deck, 1), refuse(16, 0));
     assert_eq!(word(STUDIO, &deck, 0, 1, 0), refuse(16, 1));
     assert_eq!(word(STUDIO, &deck, 0, 0, 0), refuse(16, 2));
     assert!(fixed(STUDIO, &deck, 0).map_or(false, |f| f.on && f.signature == 0));
+}
+
+/// A deck whose second rule is this one, and the last number of that rule's row.
+fn second_of_two(rule: Rule) -> (Vec<u8>, usize) {
+    let deck = write(&[random::small_rule(0xC8, vec![0x41]), rule]);
+    let (mut rules, mut elements) = ([7; 2 * RULE_WIDTH], [7; 2 * ELEMENT_WIDTH]);
+    assert_eq!(fill(DESK, &deck, &mut rules, &mut elements), Ok(2));
+    assert_eq!(fill(DESK, &deck, &mut rules[..2 * RULE_WIDTH - 1], &mut []), refuse(14, 0));
+    (deck, rules[2 * RULE_WIDTH - 1] as usize)
+}
+
+#[test]
+fn enabled_in_the_row() {
+    for (units, length) in [(0, 1), (1, 1), (254, 1), (255, 3)] {
+        for on in [false, true] {
+            let fixed = Fixed { signature: u32::MAX, on, unknown: [u32::MAX; 4] };
+            let rule = Rule { fixed, name: vec![0xFFFF; units], ..random::small_rule(0xC8, vec![]) };
+            let (deck, at) = second_of_two(rule);
+            assert_eq!(at, 70 + 4 + length + 2 * units);
+            assert_eq!(deck[at..at + 4], u32::from(on).to_le_bytes());
+        }
+    }
 }
 
 #[test]

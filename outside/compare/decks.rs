@@ -2,7 +2,7 @@
 use crate::baseline::deck::{read, write, Deck};
 use crate::baseline::random::{deck, rules_of_size, Random};
 use crate::baseline::results::{fields_in, name_part_in, word_part_in, FIELDS, PART};
-use crate::baseline::tables::{fill_from, first_byte, name_in, word_in};
+use crate::baseline::tables::{fill_from, first_byte, name_in, word_in, ELEMENT_WIDTH, RULE_WIDTH};
 use crate::baseline::{coded, Answer, DESK, STUDIO};
 use crate::lent::{every_size, tables_differ};
 use crate::lesser::smallest_deck;
@@ -48,14 +48,15 @@ fn table_pair(edition: u64, bytes: &[u8], deck: &Answer<Deck>, rules: usize, ele
     Some(format!("{call}\nthe archive leaves {r:x?} {e:x?}\ndocument 01 wants {r2:x?} {e2:x?}"))
 }
 
-/// Tables with a part of a row more; and far: that fit, that are one number short, or empty.
+/// Tables with a part of a row more; and far: that fit, that are short of one number, or of one a rule, or empty.
 fn tables(edition: u64, bytes: &[u8], deck: &Answer<Deck>, far: bool) -> Option<String> {
-    let (r, e) = match deck {
-        Err(_) => (8, 8),
-        Ok(Deck { rules, .. }) => (4 * rules.len(), 4 * rules.iter().map(|r| r.elements.len()).sum::<usize>()),
+    let (n, m) = match deck {
+        Err(_) => (2, 2),
+        Ok(Deck { rules, .. }) => (rules.len(), rules.iter().map(|r| r.elements.len()).sum()),
     };
+    let (r, e) = (RULE_WIDTH * n, ELEMENT_WIDTH * m);
     let (r1, e1) = (r.max(1) - 1, e.max(1) - 1);
-    let sizes = [(r + 3, e + 5), (r, e), (r1, e), (r, e1), (r1, e1), (0, e), (r, 0)];
+    let sizes = [(r + 3, e + 5), (r, e), (r1, e), (r - n, e), (r, e1), (r1, e1), (0, e), (r, 0)];
     let asked = if far { &sizes[..] } else { &sizes[..1] };
     asked.iter().find_map(|&(r, e)| table_pair(edition, bytes, deck, r, e))
 }

@@ -6,7 +6,7 @@
 mod check;
 pub mod edit;
 mod step;
-mod tables;
+pub mod tables;
 
 pub struct Refused(u64, usize);
 pub type Answer<T> = Result<T, Refused>;

@@ -3,7 +3,7 @@ use super::check::check;
 use super::step::{data_end, head_size, size_at, u16_in, u32_in, units};
 use super::{Answer, Refused};
 
-const RULE_WIDTH: usize = 4;
+pub const RULE_WIDTH: usize = 5;
 const ELEMENT_WIDTH: usize = 4;
 
 fn fill(s: &[u8], rules: &mut [u32], elements: &mut [u32]) {
@@ -11,7 +11,7 @@ fn fill(s: &[u8], rules: &mut [u32], elements: &mut [u32]) {
     let mut element_rows = elements.chunks_exact_mut(ELEMENT_WIDTH);
     for (k, row) in rules.chunks_exact_mut(RULE_WIDTH).enumerate() {
         let start = at;
-        let (name, _) = units(s, at + 4);
+        let (name, enabled) = units(s, at + 4);
         let body = size_at(s, at) + 4;
         let count = u16_in(s, body);
         at = body + 2 + head_size(k);
@@ -24,7 +24,7 @@ fn fill(s: &[u8], rules: &mut [u32], elements: &mut [u32]) {
             at = data_end(s, identifier, data);
             row.copy_from_slice(&[identifier, k as u32, data as u32, at as u32]);
         }
-        row.copy_from_slice(&[start as u32, at as u32, name as u32, count as u32]);
+        row.copy_from_slice(&[start, at, name, count, enabled].map(|n| n as u32));
     }
 }
 

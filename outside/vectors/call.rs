@@ -26,6 +26,9 @@ pub const ADD_WORD: u8 = 17;
 pub const NAME_PART: u8 = 18;
 pub const WORD_PART: u8 = 19;
 
+/// The most numbers of a lent table.
+pub const MOST_ROOM: u64 = 2048;
+
 /// What a table holds before its call, in each number: of 32 bits, of 64 bits.
 const AS_FOUND: u32 = 0xA5A5_A5A5;
 const WIDE_AS_FOUND: u64 = 0xA5A5_A5A5_A5A5_A5A5;
@@ -37,24 +40,30 @@ pub struct Call {
     pub bytes: Vec<Vec<u8>>,
 }
 
+/// A table as it is before its call.
+fn found<T: Clone>(number: T, room: u64) -> Vec<T> {
+    assert!(room <= MOST_ROOM, "a table of {room} numbers");
+    vec![number; room as usize]
+}
+
 fn listed(table: &[u32]) -> Vec<u8> {
     table.iter().flat_map(|n| n.to_le_bytes()).collect()
 }
 
 /// The answer of a call that fills a table of so many numbers, and the whole table.
 fn filled(room: u64, call: impl Fn(&mut [u32]) -> Answer<u64>) -> (u64, Vec<u8>) {
-    let mut table = vec![AS_FOUND; room as usize];
+    let mut table = found(AS_FOUND, room);
     (coded(call(&mut table)), listed(&table))
 }
 
 fn value(edition: u64, identifier: u32, data: &[u8], room: u64) -> (u64, Vec<u8>) {
-    let mut table = vec![WIDE_AS_FOUND; room as usize];
+    let mut table = found(WIDE_AS_FOUND, room);
     let answer = coded(results::value(edition, identifier, data, &mut table));
     (answer, table.iter().flat_map(|n| n.to_le_bytes()).collect())
 }
 
 fn read(edition: u64, deck: &[u8], rules: u64, elements: u64) -> (u64, Vec<u8>) {
-    let (mut r, mut e) = (vec![AS_FOUND; rules as usize], vec![AS_FOUND; elements as usize]);
+    let (mut r, mut e) = (found(AS_FOUND, rules), found(AS_FOUND, elements));
     let answer = coded(fill(edition, deck, &mut r, &mut e));
     (answer, [listed(&r), listed(&e)].concat())
 }

@@ -109,15 +109,36 @@ pub fn all_tables() -> File {
     for deck in table_decks() {
         file.base(&deck);
         let rules = read(STUDIO, &deck).map_or(Vec::new(), |d| d.places);
-        let (r, e) = (4 * rules.len() as u64, 4 * rules.iter().map(|p| p.elements.len() as u64).sum::<u64>());
-        let (r1, e1) = (r.saturating_sub(1), e.saturating_sub(1));
+        let elements = rules.iter().map(|p| p.elements.len()).sum();
         for edition in [0, 1, 2] {
-            for (r, e) in [(r, e), (r1, e), (r, e1), (r1, e1), (0, 0), (r + 3, e + 7)] {
-                file.call(READ, &[edition, r, e], &[&deck]);
-            }
+            reads(&mut file, edition, &deck, rules.len(), elements);
         }
     }
+    for units in [0, 1, 254, 255] {
+        named_rules(&mut file, units);
+    }
     file
+}
+
+/// Tables that fit so many rules and elements, that are short of one number, or of one a rule, empty ones, longer ones.
+fn reads(file: &mut File, edition: u64, deck: &[u8], rules: usize, elements: usize) {
+    let (r, e) = table_rooms(rules, elements);
+    let (r1, e1) = (r.saturating_sub(1), e.saturating_sub(1));
+    let mut rooms = vec![(r, e), (r1, e), (r - rules as u64, e), (r, e1), (r1, e1), (0, 0), (r + 3, e + 7)];
+    rooms.dedup();
+    for (r, e) in rooms {
+        file.call(READ, &[edition, r, e], &[deck]);
+    }
+}
+
+/// A rule with a name of so many units, alone and behind another.
+fn named_rules(file: &mut File, units: usize) {
+    let named = rule(units, vec![element(0xC8)]);
+    for rules in [vec![named.clone()], vec![rule(3, vec![element(0x64)]), named]] {
+        let deck = write(&rules);
+        file.base(&deck);
+        reads(file, DESK, &deck, rules.len(), rules.len());
+    }
 }
 
 pub fn all_views() -> File {

@@ -28,13 +28,14 @@ pub fn all_counts() -> File {
 
 fn deck_lengths(file: &mut File) {
     file.base(&write(&rules_of_size(60_000)));
+    let (r, e) = table_rooms(121, 121); // of the deck of 60,000 bytes
     for edition in [0, 1, 2] {
         for size in [59_999, 60_000, 60_001] {
             let deck = write(&rules_of_size(size));
             file.call(CHECK, &[edition], &[&deck]);
             name(file, edition, &deck, 119);
-            file.call(READ, &[edition, 483, 483], &[&deck]);
-            file.call(READ, &[edition, 487, 486], &[&deck]);
+            file.call(READ, &[edition, r - 1, e - 1], &[&deck]);
+            file.call(READ, &[edition, r + 3, e + 2], &[&deck]);
             edit(file, edition, &deck, 40, &Edit::Switch { k: 119, on: false });
             edit(file, edition, &deck, 0, &Edit::Remove { k: 0 });
             let copy = Edit::Insert { k: 1, second: deck, j: 119 };
@@ -97,9 +98,11 @@ fn many_rules(file: &mut File) {
         for edition in EDITIONS {
             file.call(CHECK, &[edition], &[&deck]);
             if n == 256 {
-                file.call(READ, &[edition, 1023, 1024], &[&deck]);
-                file.call(READ, &[edition, 1024, 1023], &[&deck]);
-                file.call(READ, &[edition, 1024, 1024 * (edition - 1)], &[&deck]);
+                let (r, e) = table_rooms(n, n);
+                let enough = if edition == DESK { (MOST_ROOM, MOST_ROOM) } else { (r, e) };
+                for (r, e) in [(r - 1, e), (r, e - 1), (r, 0), (r - n as u64, e), enough] {
+                    file.call(READ, &[edition, r, e], &[&deck]);
+                }
             }
             name(file, edition, &deck, 255);
             for more in [0, 16, 100] {
@@ -133,7 +136,8 @@ fn many_elements(file: &mut File) {
             let deck = write(&[small_rule(0xC8, vec![1]), rule(2, vec![element(0x12D); n])]);
             file.base(&deck);
             file.call(CHECK, &[edition], &[&deck]);
-            file.call(READ, &[edition, 8, 4 * (n as u64 + 1)], &[&deck]);
+            let (r, e) = table_rooms(2, n + 1);
+            file.call(READ, &[edition, r, e], &[&deck]);
             for (identifier, data) in [(0xC8, data_bytes(&Data::Simple)), (0xF0, Vec::new()), (0xC8, vec![1])] {
                 for more in [0, 13, 14, 15] {
                     edit(file, edition, &deck, more, &Edit::AddElement { identifier, data: data.clone() });

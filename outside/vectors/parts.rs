@@ -5,6 +5,7 @@ use crate::baseline::element::{data_bytes, Data, Element, Span};
 use crate::baseline::kind::{identifiers_of, row, Kind};
 use crate::baseline::random::small_rule;
 use crate::baseline::results;
+use crate::baseline::tables::{ELEMENT_WIDTH, RULE_WIDTH};
 use crate::baseline::value::value_of;
 use crate::baseline::{coded, DESK, STUDIO};
 use crate::call::*;
@@ -158,6 +159,11 @@ pub fn moment(file: &mut File, bits: u64) {
 
 pub fn value(file: &mut File, edition: u64, identifier: u32, data: &[u8]) {
     file.call(VALUE, &[edition, u64::from(identifier), results::VALUE as u64], &[data]);
+}
+
+/// The room that so many rules and elements take.
+pub fn table_rooms(rules: usize, elements: usize) -> (u64, u64) {
+    ((RULE_WIDTH * rules) as u64, (ELEMENT_WIDTH * elements) as u64)
 }
 
 /// A view, and its part in a table.

@@ -43,7 +43,8 @@ use Rattle.bounds.specs.Laws.Listed.{allowed-later, within-lists}
 use Rattle.bounds.specs.Calls.{checkNumbers, readNumbers, viewNumbers, editNumbers, kindNumbers, momentNumbers, valueNumbers, putNumbers}
 use Rattle.bounds.specs.Laws.Calls.{check-listed, pass-listed, read-listed, name-listed, word-listed, fixed-listed, edit-listed}
 use Rattle.bounds.specs.Laws.Results.{kind-listed, moment-listed, value-listed, put-listed}
-use Rattle.lent.specs.Lent.{momentWidth, lentSays, lentLeaves, Lends, LendsMoment}
+use Rattle.lent.specs.Lent.{momentWidth, lentSays, lentLeaves, Lends}
+use Rattle.lent_moment.specs.Moment.{LendsMoment}
 use Rattle.lent.specs.Laws.Lent.{lent-as}
 use Rattle.rule_deck.specs.Sent.{Hands, HandsMoment}
 

@@ -3,6 +3,7 @@ pub mod Demand2
 pub mod Places
 pub mod Views
 pub mod Tables
+pub mod State
 pub mod Demand3
 pub mod RoundTrip
 pub mod Results

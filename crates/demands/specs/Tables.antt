@@ -13,36 +13,42 @@ use borrow.Author.Tests.{le-leb}
 use Rattle.format.specs.declared.Fault.the-variants as Fault
 use Rattle.format.specs.declared.Outcome.the-variants.{Done, No}
 use Rattle.format.specs.Format.{Format, Answer, got, refused, Bytes, pick}
-use Rattle.format.specs.ReadWrite.{pairWrite, eachWrite}
+use Rattle.format.specs.ReadWrite.{pairWrite, spelt, bit, eachWrite}
 use Rattle.format.specs.Laws.ReadWrite.{length-spelt}
 use Rattle.format.specs.Combinators.{pair, via, judged, seq, _then_, number, fixed}
 use Rattle.format.specs.Row.{total, startIn}
+use Rattle.text.specs.Laws.Text.{string-length}
 use Rattle.kind.specs.declared.Product.{Product}
 use Rattle.kind.specs.declared.Edition.{Edition}
 use Rattle.kind.specs.declared.Edition.the-variants as Edition
 use Rattle.kind.specs.Kinds.{kinds, rowIn, editionOf}
 use Rattle.element.specs.Element.{Element, dataBy, element, identifier}
 use Rattle.rule.specs.Rule.{Rule, rule, placed, separator, elementsIn}
-use Rattle.rule.specs.Places.{ruleBytes, unitsAt, elementsAt, dataAt}
+use Rattle.rule.specs.Places.{ruleBytes, unitsAt, enabledAt, elementsAt, dataAt}
 use Rattle.rule.specs.Laws.Places.{rule-parts, placed-parts}
 use Rattle.deck.specs.Deck.{readAs}
 use Rattle.deck.specs.Written.{startOf}
 use Rattle.deck.specs.Laws.Written.{start-as}
-use Rattle.tables.specs.Tables.{rowsOf, ruleWidth, elementWidth, ruleRow, ruleRows, elementRow, ruleElementRows, allElementRows, inTables, tabled, filled, readSays, rulesAfter, elementsAfter}
-use Rattle.tables.specs.Laws.Fill.{total-one}
-use Rattle.tables.specs.Laws.Parts.{element-rows-long, rule-rows-long, all-rows-long}
+use Rattle.fill.specs.Rows.{rowsOf, ruleWidth, elementWidth, ruleRow, ruleRows, elementRow, ruleElementRows, allElementRows}
+use Rattle.tables.specs.Tables.{inTables, tabled, readSays, rulesAfter, elementsAfter}
+use Rattle.fill.specs.Laws.Fill.{put-front, total-one}
+use Rattle.fill.specs.Laws.Parts.{element-rows-long, rule-rows-long, all-rows-long}
 use Rattle.demands.specs.Places.{Between, UnitsOf, elementStart}
-use Rattle.demands.specs.Laws.Places.{between, string-units, rule-stands, element-stands}
+use Rattle.demands.specs.Laws.Places.{between, four-between, string-units, rule-stands, element-stands}
 
--- "Per rule, four: start, end, first byte of the name's units, number of elements": a row of rule k of rs, which is r
+-- "start, end, first byte of the name's units, number of elements"; document 02, W8: "a fifth number, the offset of" Enabled: a row of rule k of rs, which is r
 pub record RuleRow (p : Product) (s : List ℕ) (rs : List Rule) (k : ℕ) (r : Rule) (row : List ℕ) : Type 0 where
   pub start : ℕ
   pub end : ℕ
   pub units : ℕ
-  pub is : row ≡ start ∷ end ∷ units ∷ length (r .elements) ∷ []
+  pub enabled : ℕ
+  pub is : row ≡ start ∷ end ∷ units ∷ length (r .elements) ∷ enabled ∷ []
   pub starts : start ≡ startOf rs k
   pub written : Between s start end (rule p k .write r)
   pub named : UnitsOf (r .name) (take (2 * length (r .name)) (drop units s))
+  pub stands : enabled ≡ enabledAt start r
+  pub behind : enabled ≡ units + 2 * length (r .name)
+  pub state : Between s enabled (enabled + 4) (spelt 4 (bit (r .on)))
 
 -- "Per element, four: identifier, rule number, start and end of data": a row of element i of rule k of rs, which are x and r
 pub record ElementRow (p : Product) (s : List ℕ) (rs : List Rule) (k : ℕ) (r : Rule) (i : ℕ) (x : Element) (row : List ℕ) : Type 0 where
@@ -52,37 +58,38 @@ pub record ElementRow (p : Product) (s : List ℕ) (rs : List Rule) (k : ℕ) (r
   pub starts : start ≡ dataAt i (elementStart p rs k r i)
   pub written : Between s start end (dataBy (rowIn kinds (x .0)) .write (x .1))
 
--- ---- rows of four numbers, f x of them for each x
-module _ {A : Type 0} (a : ℕ → Format A) (row : ℕ → ℕ → A → List ℕ) (f : A → ℕ) (long : (i at : ℕ) (x : A) → length (row i at x) ≡ 4 * f x) where
+-- ---- rows of w numbers, f x of them for each x
+module _ {A : Type 0} (a : ℕ → Format A) (row : ℕ → ℕ → A → List ℕ) (w : ℕ) (f : A → ℕ) (long : (i at : ℕ) (x : A) → length (row i at x) ≡ w * f x) where
   -- those of value k stand behind those of the values before it
   rows-from : (i at k : ℕ) (xs : List A) {x : A} {ys : List A} (t : List ℕ) → drop k xs ≡ x ∷ ys
-      → (u : List ℕ) × (drop (4 * total f (take k xs)) (rowsOf a row i at xs ++ t) ≡ row (i + k) (at + length (eachWrite a i (take k xs))) x ++ u)
+      → (u : List ℕ) × (drop (w * total f (take k xs)) (rowsOf a row i at xs ++ t) ≡ row (i + k) (at + length (eachWrite a i (take k xs))) x ++ u)
   unfolding rowsOf total eachWrite
   rows-from i at zero [] t d = absurd (let z : _≡_ {A = ℕ} 0 1 = cc in omega arith)
   rows-from i at zero (y ∷ xs) {x} t d =
       let z : y ≡ x = cc in
       let rest = rowsOf a row (i + 1) (at + length (a i .write y)) xs in
-      (rest ++ t, rw (add-zero i, add-zero at, ← z) (append-assoc (row i at y) rest t))
+      let none : w * 0 ≡ 0 = omega arith in
+      (rest ++ t, rw (none, add-zero i, add-zero at, ← z) (append-assoc (row i at y) rest t))
   rows-from i at (suc k) [] t d = absurd (let z : _≡_ {A = ℕ} 0 1 = cc in omega arith)
   rows-from i at (suc k) (y ∷ xs) t d =
-      let w = a i .write y in
-      let ws = eachWrite a (i + 1) (take k xs) in
-      let v = rows-from (i + 1) (at + length w) k xs t d in
-      let m : 4 * (f y + total f (take k xs)) ≡ length (row i at y) + 4 * total f (take k xs) = omega (arith, long i at y) in
+      let b = a i .write y in
+      let bs = eachWrite a (i + 1) (take k xs) in
+      let v = rows-from (i + 1) (at + length b) k xs t d in
+      let m : w * (f y + total f (take k xs)) ≡ length (row i at y) + w * total f (take k xs) = omega (arith, long i at y) in
       let ei : i + 1 + k ≡ i + suc k = omega arith in
-      let ea : at + length w + length ws ≡ at + length (w ++ ws) = omega (arith, length-append w ws) in
+      let ea : at + length b + length bs ≡ at + length (b ++ bs) = omega (arith, length-append b bs) in
       (v .0, rw (m, append-assoc, ← drop-drop, drop-append-seam, ← ei, ← ea) (v .1))
 
-  rows-at : (at k : ℕ) (xs : List A) {x : A} {ys : List A} (t : List ℕ) → drop k xs ≡ x ∷ ys → (u : List ℕ) × (drop (4 * total f (take k xs)) (rowsOf a row 0 at xs ++ t) ≡ row k (startIn a at xs k) x ++ u)
+  rows-at : (at k : ℕ) (xs : List A) {x : A} {ys : List A} (t : List ℕ) → drop k xs ≡ x ∷ ys → (u : List ℕ) × (drop (w * total f (take k xs)) (rowsOf a row 0 at xs ++ t) ≡ row k (startIn a at xs k) x ++ u)
   unfolding startIn
   rows-at at k xs t d = let z : 0 + k ≡ k = zero-add k in rw z at (rows-from 0 at k xs t d)
 
 -- one for each
-row-at : {A : Type 0} (a : ℕ → Format A) (row : ℕ → ℕ → A → List ℕ) → ((i at : ℕ) (x : A) → length (row i at x) ≡ 4) → (at k : ℕ) (xs : List A) {x : A} {ys : List A} (t : List ℕ) → drop k xs ≡ x ∷ ys
-    → (u : List ℕ) × (drop (4 * k) (rowsOf a row 0 at xs ++ t) ≡ row k (startIn a at xs k) x ++ u)
-row-at a row long at k xs t d =
+row-at : {A : Type 0} (a : ℕ → Format A) (row : ℕ → ℕ → A → List ℕ) (w : ℕ) → ((i at : ℕ) (x : A) → length (row i at x) ≡ w) → (at k : ℕ) (xs : List A) {x : A} {ys : List A} (t : List ℕ) → drop k xs ≡ x ∷ ys
+    → (u : List ℕ) × (drop (w * k) (rowsOf a row 0 at xs ++ t) ≡ row k (startIn a at xs k) x ++ u)
+row-at a row w long at k xs t d =
     let z : total (λ x. 1) (take k xs) ≡ k = total-one (take k xs) ∙ length-take-le k xs (omega (arith, length-drop k xs, ap length d)) in
-    rw z at (rows-at a row (λ x. 1) long at k xs t d)
+    rw z at (rows-at a row w (λ x. 1) (λ i o x. omega (arith, long i o x)) at k xs t d)
 
 -- an element's data end where it ends
 placed-long : (p : Product) (i : ℕ) (x : Element) → length (placed p i .write x) ≡ pick (eqb i 0) 4 6 + length (dataBy (rowIn kinds (x .0)) .write (x .1))
@@ -128,23 +135,28 @@ module _ (edition : ℕ) (p : Product) (ed : editionOf edition ≡ Edition.Of p)
 
   -- it is done
   module _ (m : ℕ) (done : readSays (editionOf edition) (length rules) (length elements) s ≡ Done m) where
-    now : (rulesAfter (editionOf edition) s rules elements ≡ filled (ruleRows p 0 7 rs) rules) × (elementsAfter (editionOf edition) s rules elements ≡ filled (allElementRows p 0 7 rs) elements)
-    now = let d = rw (ed, e) at done in rw (ed, e, d) (refl, refl)
+    now : (rulesAfter (editionOf edition) s rules elements ≡ ruleRows p 0 7 rs ++ drop (length (ruleRows p 0 7 rs)) rules) × (elementsAfter (editionOf edition) s rules elements ≡ allElementRows p 0 7 rs ++ drop (length (allElementRows p 0 7 rs)) elements)
+    now = let d = rw (ed, e) at done in rw (ed, e, d) (put-front rules (ruleRows p 0 7 rs), put-front elements (allElementRows p 0 7 rs))
 
     -- every rule has its row
     pub rule-has-row : (k : ℕ) {r : Rule} {later : List Rule} → drop k rs ≡ r ∷ later → RuleRow p s rs k r (take ruleWidth (drop (ruleWidth * k) (rulesAfter (editionOf edition) s rules elements)))
     rule-has-row k {r} is-r =
         let at = startOf rs k in
         let h = rule-stands p s rs n bs e k is-r in
-        let q = row-at (rule p) (ruleRow p) (λ i at x. refl) 7 k rs (drop (length (ruleRows p 0 7 rs)) rules) is-r in
+        let y = rule-parts p k s at r (h .0) (h .1) in
+        let q = row-at (rule p) (ruleRow p) ruleWidth (λ i at x. refl) 7 k rs (drop (length (ruleRows p 0 7 rs)) rules) is-r in
         record {
           start = at;
           end = at + ruleBytes p k r;
           units = unitsAt at r;
+          enabled = enabledAt at r;
           is = rw (now .0, q .1, start-as);
           starts = refl;
           written = between (rule p k) s at (h .1);
-          named = string-units s (at + 4) (rule-parts p k s at r (h .0) (h .1) .named .1);
+          named = string-units s (at + 4) (y .named .1);
+          stands = refl;
+          behind = omega (arith, string-length (r .name));
+          state = four-between s (enabledAt at r) (y .switched .1);
         }
 
     -- every element has its row, behind those of the rules before its own
@@ -154,8 +166,8 @@ module _ (edition : ℕ) (p : Product) (ed : editionOf edition ≡ Edition.Of p)
         let at = dataAt i (elementStart p rs k r i) in
         let form = dataBy (rowIn kinds (x .0)) in
         let h = element-stands p s rs n bs e k is-r i is-x in
-        let q = rows-at (rule p) (ruleElementRows p) elementsIn (λ j a y. element-rows-long p j (elementsAt p j a y) (y .elements)) 7 k rs (drop (length (allElementRows p 0 7 rs)) elements) is-r in
-        let o = row-at (placed p) (elementRow p k) (λ j a y. refl) (elementsAt p k (startOf rs k) r) i (r .elements) (q .0) is-x in
+        let q = rows-at (rule p) (ruleElementRows p) elementWidth elementsIn (λ j a y. element-rows-long p j (elementsAt p j a y) (y .elements)) 7 k rs (drop (length (allElementRows p 0 7 rs)) elements) is-r in
+        let o = row-at (placed p) (elementRow p k) elementWidth (λ j a y. refl) (elementsAt p k (startOf rs k) r) i (r .elements) (q .0) is-x in
         let z : elementWidth * (total elementsIn (take k rs) + i) ≡ elementWidth * total elementsIn (take k rs) + elementWidth * i = omega arith in
         record {
           start = at;

@@ -10,8 +10,6 @@ use Rattle.format.specs.declared.Outcome.the-variants.{Done, No, Given}
 use Rattle.format.specs.Fault.{Said}
 use Rattle.format.specs.Format.{pick}
 use Rattle.buffer.specs.Laid.{put}
-use Rattle.date.specs.Double.{accepted}
-use Rattle.moment.specs.Moment.{SaysBy}
 
 -- the numbers of each table: an identifier's row and role; a rule's fixed fields; a view's first byte, bytes and form; year, month, day, second; a value
 abbrev pub kindWidth : ℕ
@@ -44,7 +42,3 @@ lentLeaves width t (Given c q, vs) = t
 -- the promise of every call with such a table: the answer and every number
 abbrev pub Lends : ℕ → List ℕ → Said → Outcome → List ℕ → Type 0
 Lends width t x r t′ = (r ≡ lentSays width (length t) x) × (t′ ≡ lentLeaves width t x)
-
--- a date's: of what the calendar has for it
-abbrev pub LendsMoment : ℕ → List ℕ → Outcome → List ℕ → Type 0
-LendsMoment bits t r t′ = (x : Said) × (SaysBy (accepted bits) bits x × Lends momentWidth t x r t′)

@@ -71,7 +71,7 @@ pub extern "C" fn rule_deck_word(edition: u64, deck: &[u8], k: u64, e: u64, w: u
 pub extern "C" fn rule_deck_kind(edition: u64, identifier: u32, kind: &mut [u32]) -> u64
     ensures { λ r. ⌜ Hands kindWidth (now (kind .entry)) (kindOf edition identifier) r (now (kind .exit)) ⌝ }
 {
-    packed::pack(lent::kind(edition, identifier, kind))
+    packed::pack(lent_kind::kind(edition, identifier, kind))
 }
 
 // The fixed fields of rule k.
@@ -110,7 +110,7 @@ pub extern "C" fn rule_deck_word_part(
 pub extern "C" fn rule_deck_moment(bits: u64, moment: &mut [u32]) -> u64
     ensures { λ r. ⌜ HandsMoment bits (now (moment .entry)) r (now (moment .exit)) ⌝ }
 {
-    packed::pack(lent::moment(bits, moment))
+    packed::pack(lent_moment::moment(bits, moment))
 }
 
 // The value of lone element data.

@@ -1,4 +1,1 @@
-pub mod Fill
-pub mod Parts
 pub mod Whole
-pub mod Cases

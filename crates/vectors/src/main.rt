@@ -213,7 +213,7 @@ fn is_flag(n: u64) -> bool {
 }
 
 fn is_room(n: u64) -> bool {
-    n <= 1024
+    n <= 2048
 }
 
 // Whether numbers i to j of a vector are numbers of 32 bits.
@@ -292,7 +292,7 @@ fn wide32(n: u32) -> u64 {
 
 // The numbers of a table, from a place on.
 fn put_table(got: &mut [u8], at: usize, table: &[u32])
-    requires { ⌜ (at < 2 ^ 20) × (length (now table) ≤ 1024) ⌝ }
+    requires { ⌜ (at < 2 ^ 20) × (length (now table) ≤ 2048) ⌝ }
 {
     let mut i = 0;
     while i < table.len() {
@@ -302,7 +302,7 @@ fn put_table(got: &mut [u8], at: usize, table: &[u32])
 }
 
 fn put_wide_table(got: &mut [u8], table: &[u64])
-    requires { ⌜ length (now table) ≤ 1024 ⌝ }
+    requires { ⌜ length (now table) ≤ 2048 ⌝ }
 {
     let mut i = 0;
     while i < table.len() {
@@ -311,18 +311,18 @@ fn put_wide_table(got: &mut [u8], table: &[u64])
     }
 }
 
-// The length of a lent table. A vector that asks for more than 1,024 is malformed.
+// The length of a lent table. A vector that asks for more than 2,048 is malformed.
 fn table_length(n: u64) -> usize
-    ensures { λ r. ⌜ r ≤ 1024 ⌝ }
+    ensures { λ r. ⌜ r ≤ 2048 ⌝ }
 {
-    if n < 1024 {
+    if n < 2048 {
         return n as usize;
     }
-    1024
+    2048
 }
 
 fn room(v: &[u8]) -> usize
-    ensures { λ r. ⌜ r ≤ 1024 ⌝ }
+    ensures { λ r. ⌜ r ≤ 2048 ⌝ }
 {
     table_length(number(v, room_at(byte(v, 0))))
 }
@@ -331,8 +331,8 @@ fn fill(v: &[u8], s: &[u8], table: &mut [u32]) -> Outcome {
     let edition = number(v, 0);
     let k = number(v, 1);
     match byte(v, 0) {
-        1 => lent::kind(edition, narrow(k), table),
-        4 => lent::moment(edition, table),
+        1 => lent_kind::kind(edition, narrow(k), table),
+        4 => lent_moment::moment(edition, table),
         9 => lent_fields::fields(edition, s, k, table),
         18 => lent_part::name_part(edition, s, k, table),
         _ => lent_part::word_part(edition, s, k, number(v, 2), number(v, 3), table),
@@ -340,7 +340,7 @@ fn fill(v: &[u8], s: &[u8], table: &mut [u32]) -> Outcome {
 }
 
 fn fill_into(v: &[u8], s: &[u8], table: &mut [u32], got: &mut [u8]) -> Outcome
-    requires { ⌜ length (now table) ≤ 1024 ⌝ }
+    requires { ⌜ length (now table) ≤ 2048 ⌝ }
 {
     let o = fill(v, s, table);
     put_table(got, 0, table);
@@ -351,14 +351,14 @@ fn fill_into(v: &[u8], s: &[u8], table: &mut [u32], got: &mut [u8]) -> Outcome
 fn call_fill(v: &[u8], s: &[u8], got: &mut [u8]) -> Said
     ensures { λ r. ⌜ r .count ≤ 65536 ⌝ }
 {
-    let mut table = [0xA5A5_A5A5u32; 1024];
+    let mut table = [0xA5A5_A5A5u32; 2048];
     let m = room(v);
     let o = fill_into(v, s, &mut table[..m], got);
     told(o, 4 * m)
 }
 
 fn value_into(v: &[u8], s: &[u8], table: &mut [u64], got: &mut [u8]) -> Outcome
-    requires { ⌜ length (now table) ≤ 1024 ⌝ }
+    requires { ⌜ length (now table) ≤ 2048 ⌝ }
 {
     let o = value_table::value(number(v, 0), narrow(number(v, 1)), s, table);
     put_wide_table(got, table);
@@ -368,7 +368,7 @@ fn value_into(v: &[u8], s: &[u8], table: &mut [u64], got: &mut [u8]) -> Outcome
 fn call_value(v: &[u8], s: &[u8], got: &mut [u8]) -> Said
     ensures { λ r. ⌜ r .count ≤ 65536 ⌝ }
 {
-    let mut table = [0xA5A5_A5A5_A5A5_A5A5u64; 1024];
+    let mut table = [0xA5A5_A5A5_A5A5_A5A5u64; 2048];
     let m = room(v);
     let o = value_into(v, s, &mut table[..m], got);
     told(o, 8 * m)
@@ -381,7 +381,7 @@ fn read_into(
     elements: &mut [u32],
     got: &mut [u8],
 ) -> Outcome
-    requires { ⌜ (length (now rules) ≤ 1024) × (length (now elements) ≤ 1024) ⌝ }
+    requires { ⌜ (length (now rules) ≤ 2048) × (length (now elements) ≤ 2048) ⌝ }
 {
     let o = tables::read(edition, s, rules, elements);
     put_table(got, 0, rules);
@@ -390,11 +390,11 @@ fn read_into(
 }
 
 fn call_read(edition: u64, s: &[u8], m: usize, n: usize, got: &mut [u8]) -> Said
-    requires { ⌜ (m ≤ 1024) × (n ≤ 1024) ⌝ }
+    requires { ⌜ (m ≤ 2048) × (n ≤ 2048) ⌝ }
     ensures { λ r. ⌜ r .count ≤ 65536 ⌝ }
 {
-    let mut rules = [0xA5A5_A5A5u32; 1024];
-    let mut elements = [0xA5A5_A5A5u32; 1024];
+    let mut rules = [0xA5A5_A5A5u32; 2048];
+    let mut elements = [0xA5A5_A5A5u32; 2048];
     let o = read_into(edition, s, &mut rules[..m], &mut elements[..n], got);
     told(o, 4 * (m + n))
 }

@@ -27,7 +27,8 @@ use Rattle.deck.specs.Deck.{readAs, readBy, readDeck, answered, scanned}
 use Rattle.plan.specs.Edit.{Edit, switch, rename, remove, insert, addRule, addElement, addWord, Plan, become, refuse, refuseGiven, planned, says, Edits}
 use Rattle.given.specs.Given.{given}
 use Rattle.plan.specs.Handed.{Handed}
-use Rattle.tables.specs.Tables.{ruleWidth, elementWidth, inTables, tabled, readSays}
+use Rattle.fill.specs.Rows.{ruleWidth, elementWidth}
+use Rattle.tables.specs.Tables.{inTables, tabled, readSays}
 use Rattle.view.specs.declared.View.{View}
 use Rattle.view.specs.declared.View.the-variants as View
 use Rattle.fixed.specs.declared.Fielded.{Fielded}

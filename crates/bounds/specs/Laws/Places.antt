@@ -27,7 +27,8 @@ use Rattle.deck.specs.Written.{startOf}
 use Rattle.given.specs.Given.{given}
 use Rattle.plan.specs.Edit.{Edit, switch, rename, remove, insert, addRule, addElement, addWord, Plan, become, refuse, refuseGiven, planned, says}
 use Rattle.plan.specs.Handed.{Handed}
-use Rattle.tables.specs.Tables.{ruleWidth, elementWidth, inTables, tabled, readSays}
+use Rattle.fill.specs.Rows.{ruleWidth, elementWidth}
+use Rattle.tables.specs.Tables.{inTables, tabled, readSays}
 use Rattle.view.specs.declared.View.{View}
 use Rattle.view.specs.declared.View.the-variants.{At, No}
 use Rattle.asked.specs.Asked.{asked, askedBy, askedOf, askedFirst}

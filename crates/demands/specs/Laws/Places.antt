@@ -39,6 +39,11 @@ between a s at {x} {u} b =
     let z : at + length (a .write x) - at ≡ length (a .write x) = omega arith in
     record { ends = refl; are = rw (z, b .is) (take-append-seam (a .write x) u) }
 
+-- a number of four bytes
+pub four-between : (s : List ℕ) (at : ℕ) {v : ℕ} {u : List ℕ} → Stands (number 4) s at v u → Between s at (at + 4) (spelt 4 v)
+unfolding number
+four-between s at {v} b = rw length-spelt at (between (number 4) s at b)
+
 -- value k of a row stands where it starts
 pub stands-in : {A : Type 0} (a : ℕ → Format A) (s : List ℕ) (from k : ℕ) (xs : List A) {x : A} {ys : List A} {t : List ℕ} → Row a s 0 from xs t → drop k xs ≡ x ∷ ys → Held (a k) s (startIn a from xs k) x
 stands-in a s from k xs {x} {ys} {t} row d =

@@ -1,9 +1,9 @@
 -- Laws of ../Lent.antt: a row that was put, a refusal that was handed on.
-use Prim.Native.Nat.{ℕ, _-_, _^_, _≤_, _<_}
+use Prim.Native.Nat.{ℕ, _≤_, _<_}
 use native.Mathlib.Omega.{arith}
 use mathlib.Core.Path.{_≡_, refl}
 use mathlib.Core.Bool.{Bool, true, false}
-use mathlib.Core.List.{List, [], _∷_}
+use mathlib.Core.List.{List, []}
 use lib.Dec.{leb}
 use lib.ListN.{length}
 use borrow.Author.Tests.{le-leb, lt-leb}
@@ -14,18 +14,6 @@ use Rattle.format.specs.declared.Outcome.the-variants.{Done, No, Given}
 use Rattle.format.specs.Fault.{placeOf, Said}
 use Rattle.format.specs.Format.{pick}
 use Rattle.buffer.specs.Laid.{put}
-use Rattle.kind.specs.declared.Role.{Role}
-use Rattle.kind.specs.declared.Role.the-variants.{Condition, Action, Exception}
-use Rattle.kind.specs.declared.Kind.the-variants.{Simple}
-use Rattle.kind.specs.Kinds.{roleNumber, kindValues}
-use Rattle.civil.specs.declared.Civil.{Civil}
-use Rattle.civil.specs.Calendar.{dayOf}
-use Rattle.civil.specs.Laws.Steps.{years-least}
-use Rattle.moment.specs.declared.Moment.{Moment}
-use Rattle.moment.specs.declared.Moment.the-variants.{At}
-use Rattle.moment.specs.Moment.{Says}
-use Rattle.moment.specs.Laws.One.{Shown, says-shown}
-use Rattle.moment.proofs.Shift.{second-small, day-small}
 use Rattle.lent.specs.Lent.{lentSays, lentLeaves, Lends}
 
 -- accepted, with these numbers
@@ -40,6 +28,11 @@ module _ (width : ℕ) (t : List ℕ) where
   pub lent-done : (n : ℕ) (vs : List ℕ) {t′ : List ℕ} → t′ ≡ put t 0 vs → width ≤ length t → Lends width t (Done n, vs) (Done n) t′
   unfolding lentSays lentLeaves pick
   lent-done n vs e h = let f = le-leb width (length t) h in rw f (refl, e)
+
+  -- where there is room
+  pub lent-put : (vs : List ℕ) {r : Outcome} {t′ : List ℕ} → Lends width t (told vs) r t′ → width ≤ length t → t′ ≡ put t 0 vs
+  unfolding lentLeaves pick
+  lent-put vs f h = let e = le-leb width (length t) h in rw e at (f .1)
 
   module _ {x : Said} {r : Outcome} where
     pub lent-no : (c : Fault) (q : ℕ) → _≡_ {A = Said} (No c q, []) x → r ≡ No c q → Lends width t x r t
@@ -68,26 +61,3 @@ lent-place width room (Done n, vs) h = go (leb width room)
     go false = omega arith
 lent-place width room (No c q, vs) h = h
 lent-place width room (Given c q, vs) h = h
-
--- ---- the rows, as the code has their numbers
-
-pub simple-row : (r : Role) {n m : ℕ} → n ≡ roleNumber r → m ≡ roleNumber r → told (n ∷ m ∷ []) ≡ told (kindValues (Simple r))
-simple-row Condition e f = rw (e, f)
-simple-row Action e f = rw (e, f)
-simple-row Exception e f = rw (e, f)
-
--- a date's numbers have 32 bits
-pub record Narrow (c : Civil) (second : ℕ) : Type 0 where
-  pub year : c .year < 2 ^ 32
-  pub month : c .month < 2 ^ 32
-  pub day : c .day < 2 ^ 32
-  pub of-day : second < 2 ^ 32
-
-pub moment-narrow : (bits : ℕ) (c : Civil) (second : ℕ) {m : Moment} → Says bits m → m ≡ At c second → Narrow c second
-unfolding dayOf
-moment-narrow bits c second s e =
-    let f : Shown bits c second = says-shown bits c second (rw e at s) in
-    let d = day-small bits (f .date) in
-    let y = years-least (c .year - 100) in
-    let n = second-small bits in
-    record { year = omega (arith, f .on-day, d, y); month = omega (arith, f .valid .month-high); day = omega (arith, f .on-day, d); of-day = omega (arith, f .at, n) }

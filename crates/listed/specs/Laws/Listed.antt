@@ -1,43 +1,54 @@
--- Laws of ../Listed.antt: as the code finds a row's numbers, and a rule's state and name.
+-- Laws of ../Listed.antt: as the code finds a row's numbers and a rule's state; the lines of a row that is known.
 use Prim.Native.Nat.{ℕ, _+_, _-_, _*_, _/_, _≤_}
-use mathlib.Core.Path.{_≡_, sym, ap, _∙_}
+use native.Mathlib.Omega.{arith}
+use mathlib.Core.Path.{_≡_, refl, sym, ap, _∙_}
 use mathlib.Core.Bool.{Bool, false}
-use mathlib.Core.List.{List}
-use lib.ListN.{length, List·getD-eq-default}
-use Rattle.rule.specs.declared.Fields.{Fields}
-use Rattle.fixed.specs.declared.Fielded.{Fielded}
-use Rattle.fixed.specs.declared.Fielded.the-variants as Fielded
-use Rattle.view.specs.declared.View.{View}
-use Rattle.view.specs.declared.View.the-variants as View
-use Rattle.fixed.specs.Fixed.{fixedFields}
-use Rattle.name_view.specs.Name.{nameView}
+use mathlib.Core.List.{List, _∷_}
+use lib.Dec.{eqb}
+use lib.ListN.{length, drop, List·getD-eq-default}
 use Rattle.format.specs.declared.Fault.{Fault}
+use Rattle.format.specs.declared.Read.{Read}
+use Rattle.format.specs.declared.Read.the-variants.{Got, No}
+use Rattle.format.specs.Format.{got}
+use Rattle.format.specs.ReadWrite.{bit}
+use Rattle.format.specs.Laws.ReadWrite.{eqb-bit}
+use Rattle.format.specs.Combinators.{number}
+use Rattle.format.specs.Laws.Seen.{seen, itself, told-got, told-no}
 use Rattle.line.specs.Line.{ruleLine, elementLine, Lined}
-use Rattle.listed.specs.Listed.{entry, isOn, unitsOf, ruleListed, elementListed}
+use Rattle.listed.specs.Listed.{entry, isOn, ruleListed, elementListed}
 
 -- ---- as the code finds them
-pub entry-none : (table : List ℕ) (i j : ℕ) → length table ≤ 4 * i + j → 0 ≡ entry table i j
-entry-none table i j h = sym (List·getD-eq-default table 0 h)
+pub entry-none : (row : List ℕ) (j : ℕ) → length row ≤ j → 0 ≡ entry row j
+entry-none row j h = sym (List·getD-eq-default row 0 h)
 
-pub on-is : {v w : Fielded} {f : Fields} → v ≡ w → v ≡ Fielded.Is f → f .on ≡ isOn w
-on-is e h = ap isOn (sym h ∙ e)
+module _ (s : List ℕ) (at : ℕ) {r : Read} (e : r ≡ seen itself (number 4) s at) where
+  pub on-is : {v m : ℕ} → r ≡ Got m v → eqb v 1 ≡ isOn (number 4 .read (drop at s))
+  unfolding seen
+  on-is h = let g = told-got at itself (number 4 .read (drop at s)) e h in ap (λ (x : ℕ). eqb x 1) (g .tells) ∙ sym (ap isOn (g .is))
 
-pub on-none : {v w : Fielded} {c : Fault} {p : ℕ} → v ≡ w → v ≡ Fielded.No c p → false ≡ isOn w
-on-none e h = ap isOn (sym h ∙ e)
-
-pub units-are : {v w : View} {a n : ℕ} → v ≡ w → v ≡ View.At a n → n / 2 ≡ unitsOf w
-units-are e h = ap unitsOf (sym h ∙ e)
-
-pub units-none : {v w : View} {c : Fault} {p : ℕ} → v ≡ w → v ≡ View.No c p → 0 ≡ unitsOf w
-units-none e h = ap unitsOf (sym h ∙ e)
+  pub on-none : {c : Fault} {m : ℕ} → r ≡ No m c → false ≡ isOn (number 4 .read (drop at s))
+  unfolding seen
+  on-none h = sym (ap isOn (told-no at itself (number 4 .read (drop at s)) e h .is))
 
 module _ {d y : List ℕ} {r : ℕ} where
-  pub rule-listed : (s rules : List ℕ) (k : ℕ) {on : Bool} {units n : ℕ} → on ≡ isOn (fixedFields 2 k s) → units ≡ unitsOf (nameView 2 k s) → n ≡ entry rules k 3
-      → Lined d (ruleLine k on units n) r y → Lined d (ruleListed s rules k) r y
+  pub rule-listed : (s : List ℕ) (k : ℕ) (row : List ℕ) {on : Bool} {a b n units : ℕ} → a ≡ entry row 2 → n ≡ entry row 3 → b ≡ entry row 4 → on ≡ isOn (number 4 .read (drop b s)) → units ≡ (b - a) / 2
+      → Lined d (ruleLine k on units n) r y → Lined d (ruleListed s k row) r y
   unfolding ruleListed
-  rule-listed s rules k e f g l = rw (← e, ← f, ← g) l
+  rule-listed s k row ea en eb f g l = rw (← ea, ← en, ← eb, ← f, ← g) l
 
-  pub element-listed : (elements : List ℕ) (i j : ℕ) {a b c n : ℕ} → a ≡ entry elements i 0 → b ≡ entry elements i 2 → c ≡ entry elements i 3 → n ≡ c - b
-      → Lined d (elementLine j a n) r y → Lined d (elementListed elements i j) r y
+  pub element-listed : (j : ℕ) (row : List ℕ) {a b c n : ℕ} → a ≡ entry row 0 → b ≡ entry row 2 → c ≡ entry row 3 → n ≡ c - b
+      → Lined d (elementLine j a n) r y → Lined d (elementListed j row) r y
   unfolding elementListed
-  element-listed elements i j e f g h l = rw (← e, ← f, ← g, ← h) l
+  element-listed j row e f g h l = rw (← e, ← f, ← g, ← h) l
+
+-- ---- of a row whose numbers are known: m units end at Enabled, where a state stands
+pub rule-listed-as : (s : List ℕ) (k start end units n enabled m : ℕ) (on : Bool) {o : ℕ} (rest : List ℕ) → enabled ≡ units + 2 * m → number 4 .read (drop enabled s) ≡ got (bit on) o
+    → ruleListed s k (start ∷ end ∷ units ∷ n ∷ enabled ∷ rest) ≡ ruleLine k on m n
+unfolding ruleListed
+rule-listed-as s k start end units n enabled m on rest e h =
+    let z : (enabled - units) / 2 ≡ m = omega arith in
+    rw (z, h, eqb-bit on)
+
+pub element-listed-as : (j identifier rule start end : ℕ) (rest : List ℕ) → elementListed j (identifier ∷ rule ∷ start ∷ end ∷ rest) ≡ elementLine j identifier (end - start)
+unfolding elementListed
+element-listed-as j identifier rule start end rest = refl

@@ -1,7 +1,7 @@
 use native.Mathlib.Omega.{arith}
 use mathlib.Core.Logic.{inl, inr}
 use Rattle.format.specs.Laws.Format.{bytes-all}
-use Rattle.tables.specs.Laws.Whole.{read-none, read-refused, read-small, read-full, read-unlike, read-done}
+use Rattle.tables.specs.Laws.Whole.{read-none, read-refused, read-full, read-unlike, read-done}
 use borrow.Author.Needs.{needs}
 use Rattle.tables.proofs.read.Statement.{statement}
 use Rattle.tables.proofs.read.Tie as tie
@@ -14,9 +14,6 @@ returns-2 c = read-refused _ _ (c .before .before .before .before .before .befor
 
 returns-3 : tie.Need-returns-3
 returns-3 c = read-full _ _ (c .before .before .before .before .before .before .before .before .before .edition-of .ensures) (c .before .before .before .before .before .before .before .e .given .1) (c .before .before .before .before .before .pass .ensures .0) _ _ (c .before .before .before .scan .given .1) (c .before .room .ensures) (λ v h. elim (rw h at (c .match3 .keys2)) [ inl z ↦ absurd (omega arith) | inr z ↦ absurd (omega arith) ])
-
-fill-rules-requires : tie.Need-fill-rules-requires
-fill-rules-requires c κs = read-small _ _ (c .before .before .before .before .before .before .before .before .before .before .before .before .edition-of .ensures) (c .before .before .before .before .before .before .before .before .before .before .e .given .1) (c .before .before .before .before .before .before .before .before .pass .ensures .0) (c .before .before .before .before .before .before .scan .given .1) (bytes-all _ (c .before .before .before .before .before .before .before .before .before .before .before .before .before .before .before .shared-slice-known .given))
 
 returns-4 : tie.Need-returns-4
 returns-4 c = read-unlike _ _ (c .before .before .before .before .before .before .before .before .before .before .before .before .before .before .before .before .before .before .before .before .edition-of .ensures) (c .before .before .before .before .before .before .before .before .before .before .before .before .before .before .before .before .before .before .e .given .1) (c .before .before .before .before .before .before .before .before .before .before .before .before .before .before .before .before .pass .ensures .0) _ _ (c .before .before .before .before .before .before .before .before .before .before .before .before .before .before .scan .given .1) (c .before .before .before .before .before .before .before .before .before .before .before .before .room .ensures) (c .before .before .before .before .before .before .before .before .before .before .enum-told3 .given .1) (bytes-all _ (c .before .before .before .before .before .before .before .before .before .before .before .before .before .before .before .before .before .before .before .before .before .before .before .shared-slice-known .given)) (c .before .before .before .before .before .before .before .fill-rules .ensures) (c .before .enum-told5 .given .1)
@@ -40,7 +37,7 @@ read-spec =
     (λ c κs. search needs)
     (λ c. search needs)
     returns-3
-    fill-rules-requires
+    (λ c κs. search needs)
     (λ c. search needs)
     (λ c. search needs)
     (λ c κs. search needs)

@@ -27,10 +27,10 @@ use Rattle.scan.specs.declared.Scan.the-variants as Scan
 use Rattle.scan.specs.Scan.{scanSays}
 use Rattle.deck.specs.Laws.Deck.{deck-row, read-writes-back, deck-small}
 use Rattle.deck.specs.Deck.{readAs, readBy, readDeck, scanned}
-use Rattle.tables.specs.Tables.{ruleWidth, elementWidth, ruleRows, allElementRows, inTables, tabled, rulesLeft, elementsLeft, readSays, rulesAfter, elementsAfter}
+use Rattle.fill.specs.Rows.{ruleWidth, elementWidth, ruleRows, allElementRows}
+use Rattle.tables.specs.Tables.{inTables, tabled, rulesLeft, elementsLeft, readSays, rulesAfter, elementsAfter}
 use Rattle.buffer.specs.Laid.{put}
-use Rattle.tables.specs.Laws.Fill.{put-front}
-use Rattle.tables.specs.Laws.Parts.{RulesFill, rule-rows-long, all-rows-long}
+use Rattle.fill.specs.Laws.Parts.{RulesFill, rule-rows-long, all-rows-long}
 
 -- what the first pass tells
 record Tells (p : Product) (s : List ℕ) (n m : ℕ) : Type 0 where
@@ -66,7 +66,7 @@ module _ (edition : ℕ) (s : List ℕ) {d : Edition} (f : d ≡ editionOf editi
         go (got rs o) w z = record { rs = rs; ends = o; is = w; rules = (cc); elements = (cc) }
         go (refused k q) w z = absurd (let x : _≡_ {A = ℕ} 0 1 = cc in omega arith)
 
-    pub read-small : {n m : ℕ} → c ≡ Scan.Is n m → Bytes s → (length s ≤ 60000) × (n ≤ 256)
+    read-small : {n m : ℕ} → c ≡ Scan.Is n m → Bytes s → (length s ≤ 60000) × (n ≤ 256)
     read-small i bs =
         let a = found i in
         let w = read-writes-back p s (a .rs) (a .ends) bs (a .is) in
@@ -124,14 +124,15 @@ module _ (edition : ℕ) (s : List ℕ) {d : Edition} (f : d ≡ editionOf editi
               all : (r ≡ Read.Got (7 + length (eachWrite (rule p) 0 (a .rs))) n) × ((t₁ ≡ put t 0 (ruleRows p 0 7 (a .rs))) × (e₁ ≡ put e 0 (allElementRows p 0 7 (a .rs))))
               all =
                   let w = read-writes-back p s (a .rs) (a .ends) bs (a .is) in
-                  x (a .rs) [] (deck-row p s (a .rs) (w .fit) (w .is)) (sym (a .rules)) (omega (arith, fits .0, rule-rows-long p 7 (a .rs), a .rules)) (omega (arith, fits .1, all-rows-long p 7 (a .rs), a .elements))
+                  let few = read-small i bs in
+                  x (few .0) (few .1) (a .rs) [] (deck-row p s (a .rs) (w .fit) (w .is)) (sym (a .rules)) (omega (arith, fits .0, rule-rows-long p 7 (a .rs), a .rules)) (omega (arith, fits .1, all-rows-long p 7 (a .rs), a .elements))
 
               -- it refuses nothing
               pub read-unlike : {k : Fault} {q : ℕ} {y : Outcome} → r ≡ Read.No q k → Promise (editionOf edition) s t t₁ e e₁ y
               read-unlike w = unlike (all .0) w
 
               pub read-done : Promise (editionOf edition) s t t₁ e e₁ o
-              read-done = answered-as (a .is) (rw (← answer) (refl, (rw done (all .1 .0 ∙ put-front t (ruleRows p 0 7 (a .rs))), rw done (all .1 .1 ∙ put-front e (allElementRows p 0 7 (a .rs))))))
+              read-done = answered-as (a .is) (rw (← answer) (refl, (rw done (all .1 .0), rw done (all .1 .1))))
 
 -- as the code judges the room
 module _ (n m rules elements : ℕ) where
