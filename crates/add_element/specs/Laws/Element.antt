@@ -20,11 +20,11 @@ use Rattle.format.specs.Combinators.{number}
 use Rattle.format.specs.Laws.Seen.{seen, itself, told, none, told-got, told-no}
 use Rattle.format.specs.Laws.Written.{Stands}
 use Rattle.format.specs.Laws.Back.{back-got, back-no}
-use Rattle.text.specs.Text.{string}
 use Rattle.kind.specs.declared.Product.{Product}
 use Rattle.kind.specs.declared.Product.the-variants.{Studio}
 use Rattle.element.specs.Element.{Element}
 use Rattle.rule.specs.Rule.{Rule, placed}
+use Rattle.rule.specs.Places.{enabledAt}
 use Rattle.rule.specs.Laws.Rule.{rule-fits}
 use Rattle.rule.specs.Laws.Parts.{kept, front, front-long, back, back-long, headBytes, inner, sizeOf}
 use Rattle.deck.specs.Written.{written, startOf}
@@ -68,7 +68,7 @@ module _ (n : ℕ) (d : List ℕ) {p : Product} {rs : List Rule} {k : ℕ} (h : 
   last-is = h .is ∙ rw (z, rules-none, append-nil)
 
   -- e is where its name ends
-  module _ {e : ℕ} (g : e ≡ startOf rs k + 4 + length (string .write (h .r .name))) where
+  module _ {e : ℕ} (g : e ≡ enabledAt (startOf rs k) (h .r)) where
     pub front-ends : length (before (length rs) (take k rs) ++ front (h .r)) ≡ e + 20
     front-ends = omega (arith, length-append (before (length rs) (take k rs)) (front (h .r)), h .starts, front-long (h .r), g)
 
@@ -111,12 +111,12 @@ back-more k xs x E e =
 -- whatever sound deck of m rules is in the first n bytes, its last rule having a name that ends at e and c elements: the element x, whose bytes are these, is added
 unfoldable pub Grows : ℕ → ℕ → ℕ → ℕ → ℕ → List ℕ → List ℕ → Outcome → List ℕ → Type 0
 Grows n m e c id s d r d′ =
-    (p : Product) (rs : List Rule) (k : ℕ) (x : Element) (h : Here p (take n d) rs k) → h .later ≡ [] → n ≤ length d → m ≡ length rs → e ≡ startOf rs k + 4 + length (string .write (h .r .name)) → c ≡ length (h .r .elements) → placed Studio c .write x ≡ laterBytes id s
+    (p : Product) (rs : List Rule) (k : ℕ) (x : Element) (h : Here p (take n d) rs k) → h .later ≡ [] → n ≤ length d → m ≡ length rs → e ≡ enabledAt (startOf rs k) (h .r) → c ≡ length (h .r .elements) → placed Studio c .write x ≡ laterBytes id s
     → Does n (become (take k rs ++ (holding (h .r .elements ++ (x ∷ [])) (h .r) ∷ []))) d r d′
 
 module _ (n m e c id : ℕ) (s d : List ℕ) where
   -- the deck of the edited list
-  grown-written : {p : Product} {rs : List Rule} {k : ℕ} (x : Element) (h : Here p (take n d) rs k) → h .later ≡ [] → n ≤ length d → e ≡ startOf rs k + 4 + length (string .write (h .r .name)) → c ≡ length (h .r .elements) → placed Studio c .write x ≡ laterBytes id s → k < length rs
+  grown-written : {p : Product} {rs : List Rule} {k : ℕ} (x : Element) (h : Here p (take n d) rs k) → h .later ≡ [] → n ≤ length d → e ≡ enabledAt (startOf rs k) (h .r) → c ≡ length (h .r .elements) → placed Studio c .write x ≡ laterBytes id s → k < length rs
       → written (take k rs ++ (holding (h .r .elements ++ (x ∷ [])) (h .r) ∷ [])) ≡ before (length rs) (take k rs) ++ (front (h .r) ++ (spelt 4 (n + 6 + length s - (e + 24)) ++ (spelt 2 (c + 1) ++ (headBytes k ++ (inner (h .r .elements) ++ laterBytes id s)))))
   unfolding front kept
   grown-written {rs = rs} {k = k} x h z w g cs b l =
@@ -125,7 +125,7 @@ module _ (n m e c id : ℕ) (s d : List ℕ) where
       let size : sizeOf k els + length (laterBytes id s) ≡ n + 6 + length s - (e + 24) = omega (arith, later-long id s, size-ends n d h z w g) in
       written-here rs [] k (h .r) (holding (els ++ (x ∷ [])) (h .r)) f l ∙ rw (rules-none, append-nil, back-more k els x (laterBytes id s) (rw cs at b), size, cs)
 
-  grown-long : {p : Product} {rs : List Rule} {k : ℕ} (h : Here p (take n d) rs k) (S C : ℕ) → h .later ≡ [] → n ≤ length d → e ≡ startOf rs k + 4 + length (string .write (h .r .name))
+  grown-long : {p : Product} {rs : List Rule} {k : ℕ} (h : Here p (take n d) rs k) (S C : ℕ) → h .later ≡ [] → n ≤ length d → e ≡ enabledAt (startOf rs k) (h .r)
       → length (before (length rs) (take k rs) ++ (front (h .r) ++ (spelt 4 S ++ (spelt 2 C ++ (headBytes k ++ (inner (h .r .elements) ++ laterBytes id s)))))) ≡ n + 6 + length s
   unfolding sizeOf
   grown-long {rs = rs} {k = k} h S C z w g =
@@ -159,7 +159,7 @@ module _ (n m e c id : ℕ) (s d : List ℕ) where
 -- ---- what is judged before
 
 -- the number of elements stands behind Data Size
-pub count-stands : (n : ℕ) (d : List ℕ) {p : Product} {rs : List Rule} {k e : ℕ} (h : Here p (take n d) rs k) → n ≤ length d → e ≡ startOf rs k + 4 + length (string .write (h .r .name))
+pub count-stands : (n : ℕ) (d : List ℕ) {p : Product} {rs : List Rule} {k e : ℕ} (h : Here p (take n d) rs k) → n ≤ length d → e ≡ enabledAt (startOf rs k) (h .r)
     → (u : List ℕ) × Stands (number 2) d (e + 24) (length (h .r .elements)) u
 unfolding number back
 count-stands n d {p} {rs} {k} {e} h w g =

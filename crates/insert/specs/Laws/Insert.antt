@@ -19,12 +19,12 @@ use Rattle.format.specs.Format.{Answer, got, refused, pick, Bytes}
 use Rattle.format.specs.ReadWrite.{spelt}
 use Rattle.format.specs.Laws.ReadWrite.{length-spelt}
 use Rattle.format.specs.Row.{startIn}
-use Rattle.text.specs.Text.{string}
 use Rattle.kind.specs.declared.Product.{Product}
 use Rattle.kind.specs.declared.Edition.{Edition}
 use Rattle.kind.specs.declared.Edition.the-variants as Edition
 use Rattle.kind.specs.Kinds.{editionOf}
 use Rattle.rule.specs.Rule.{Rule}
+use Rattle.rule.specs.Places.{enabledAt}
 use Rattle.rule.specs.Laws.Parts.{front, front-long, back, back-long, headBytes, inner, sizeOf}
 use Rattle.deck.specs.Deck.{readAs, readBy, readDeck}
 use Rattle.deck.specs.Laws.Written.{before, before-long, opening, opening-long, rules, rules-cons, written-is}
@@ -158,7 +158,7 @@ part-of P Q R {a} {e} p q = let n : length Q ≡ e - a = omega arith in ap (take
 
 -- rule j of it, by its parts
 module _ (s : List ℕ) {p : Product} {qs : List Rule} {j : ℕ} (h : Here p s qs j) where
-  name-there : nameEnd s (startOf qs j) ≡ startOf qs j + 4 + length (string .write (h .r .name))
+  name-there : nameEnd s (startOf qs j) ≡ enabledAt (startOf qs j) (h .r)
   name-there = name-end s (startOf qs j) p j (h .r) (here-stands p s qs j h)
 
   size-there : startOf qs j + length (front (h .r)) ≡ nameEnd s (startOf qs j) + 20

@@ -20,7 +20,7 @@ use Rattle.format.specs.Laws.Written.{Held}
 use Rattle.format.specs.Laws.Back.{Where, back-got, back-no}
 use Rattle.format.specs.Row.{startIn}
 use Rattle.format.specs.Laws.Skip.{Skipped, nth}
-use Rattle.text.specs.Text.{string, word}
+use Rattle.text.specs.Text.{word}
 use Rattle.kind.specs.declared.Product.{Product}
 use Rattle.kind.specs.declared.Kind.{Kind}
 use Rattle.kind.specs.declared.Kind.the-variants as Kind
@@ -34,7 +34,7 @@ use Rattle.element.specs.Element.{Element, element, identifier, dataBy}
 use Rattle.rule.specs.Rule.{Rule, rule, separator, placed}
 use Rattle.rule.specs.Laws.Rule.{rule-fits}
 use Rattle.rule.specs.Laws.Parts.{headBytes, inner, inner-as}
-use Rattle.rule.specs.Places.{elementsAt, dataAt}
+use Rattle.rule.specs.Places.{elementsAt, dataAt, enabledAt}
 use Rattle.rule.specs.Laws.Places.{rule-parts, rule-elements, placed-parts}
 use Rattle.walk.specs.Laws.Elements.{Elements, Carries, elements-none, elements-are, element-never, of-element}
 use Rattle.walk.specs.Elements.{ofFirst, ofElement}
@@ -126,7 +126,7 @@ words-are at (Row.Is (Kind.Size r)) x f h = unlike h (words-none _ _ (Kind.Size 
 words-are at (Row.Is (Kind.Dates r)) x f h = unlike h (words-none _ _ (Kind.Dates r) x f tt)
 words-are at (Row.No c q) x f h = unlike h (words-none _ _ (Kind.Simple Role.Condition) x f tt)
 
-pub ends-in-list : (p : Product) (s : List ℕ) (at k e : ℕ) (x : Rule) {c t : ℕ} → Held (rule p k) s at x → e ≡ at + 4 + length (string .write (x .name)) → lastList p k at x ≡ Got t c → EndsInList k e (x .elements) c t
+pub ends-in-list : (p : Product) (s : List ℕ) (at k e : ℕ) (x : Rule) {c t : ℕ} → Held (rule p k) s at x → e ≡ enabledAt at x → lastList p k at x ≡ Got t c → EndsInList k e (x .elements) c t
 unfolding startIn headBytes
 ends-in-list p s at k e x b ee h =
     let els = x .elements in

@@ -11,9 +11,9 @@ use Rattle.format.specs.declared.Outcome.the-variants as Outcome
 use Rattle.format.specs.declared.Read.{Read}
 use Rattle.format.specs.declared.Read.the-variants as Read
 use Rattle.format.specs.ReadWrite.{eachWrite}
-use Rattle.text.specs.Text.{string}
 use Rattle.kind.specs.declared.Product.{Product}
 use Rattle.rule.specs.Rule.{Rule}
+use Rattle.rule.specs.Places.{enabledAt}
 use Rattle.deck.specs.Laws.Written.{rules}
 use Rattle.deck.specs.Written.{startOf}
 use Rattle.locate.specs.Laws.Located.{lastOf}
@@ -50,7 +50,7 @@ module _ (p : Product) (n m a : ℕ) (d : List ℕ) (e : Edit) (F : List Rule �
 
   -- whatever the last rule is
   pub on-last : {t : ℕ} (r : Outcome) (d′ : List ℕ) → (m ≡ 0 → ⊥) → t ≡ nameEnd d a
-      → ((rs : List Rule) (h : Here p (take n d) rs (m - 1)) → h .later ≡ [] → n ≤ length d → m ≡ length rs → t ≡ startOf rs (m - 1) + 4 + length (string .write (h .r .name)) → a ≡ startOf rs (m - 1) → Does n (F rs (m - 1) (h .r)) d r d′)
+      → ((rs : List Rule) (h : Here p (take n d) rs (m - 1)) → h .later ≡ [] → n ≤ length d → m ≡ length rs → t ≡ enabledAt (startOf rs (m - 1)) (h .r) → a ≡ startOf rs (m - 1) → Does n (F rs (m - 1) (h .r)) d r d′)
       → MakesAs p lastOf n m a e d r d′
   unfolding MakesAs
   on-last {t} r d′ l g f rs o w em ea = go (here p (take n d) rs (m - 1) o (omega arith)) (ap (λ (i : ℕ). i - 1) (sym em))
@@ -58,7 +58,7 @@ module _ (p : Product) (n m a : ℕ) (d : List ℕ) (e : Edit) (F : List Rule �
       go : Here p (take n d) rs (m - 1) → length rs - 1 ≡ m - 1 → Does n (edited p e rs) d r d′
       go h ek =
           let a′ : a ≡ startOf rs (m - 1) = ea ∙ ap (startOf rs) ek in
-          let t′ : t ≡ startOf rs (m - 1) + 4 + length (string .write (h .r .name)) = g ∙ ap (nameEnd d) a′ ∙ name-ends n d h in
+          let t′ : t ≡ enabledAt (startOf rs (m - 1)) (h .r) = g ∙ ap (nameEnd d) a′ ∙ name-ends n d h in
           rw (q rs, ek, at-last rs (m - 1) _ (h .from)) (f rs h (last-rule h (omega arith)) w em t′ a′)
 
 -- its name can be read

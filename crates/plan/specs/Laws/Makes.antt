@@ -15,10 +15,10 @@ use Rattle.format.specs.declared.Read.{Read}
 use Rattle.format.specs.declared.Read.the-variants as Read
 use Rattle.format.specs.Format.{Answer, got, refused, pick}
 use Rattle.format.specs.Laws.Written.{Held}
-use Rattle.text.specs.Text.{string}
 use Rattle.kind.specs.declared.Product.{Product}
 use Rattle.element.specs.Element.{Element}
 use Rattle.rule.specs.Rule.{Rule, rule}
+use Rattle.rule.specs.Places.{enabledAt}
 use Rattle.rule.specs.Laws.Parts.{front, back, rule-is}
 use Rattle.deck.specs.Written.{written, startOf}
 use Rattle.deck.specs.Laws.Written.{written-is, before, rules, rules-cons}
@@ -43,7 +43,7 @@ module _ (n : ℕ) (d : List ℕ) {p : Product} {rs : List Rule} where
       let w : d ≡ P ++ (rule p k .write (h .r) ++ L) = sym (take-append-drop n d) ∙ ap (λ (z : List ℕ). z ++ drop n d) (h .is) ∙ rw (rule-is p k (h .r)) (simp append-assoc) in
       (L, record { fit = h .fits; is = ap (drop (startOf rs k)) w ∙ drop-at P _ (startOf rs k) (h .starts) })
 
-  pub name-ends : {k : ℕ} (h : Here p (take n d) rs k) → nameEnd d (startOf rs k) ≡ startOf rs k + 4 + length (string .write (h .r .name))
+  pub name-ends : {k : ℕ} (h : Here p (take n d) rs k) → nameEnd d (startOf rs k) ≡ enabledAt (startOf rs k) (h .r)
   name-ends {k} h = name-end d (startOf rs k) p k (h .r) (here-in h)
 
   -- its name can be read: t is what it was read as

@@ -18,10 +18,10 @@ use Rattle.format.specs.Combinators.{number}
 use Rattle.format.specs.Laws.Seen.{seen, itself, unlike}
 use Rattle.format.specs.Laws.Back.{seen-fits}
 use Rattle.format.specs.Row.{startIn}
-use Rattle.text.specs.Text.{string}
 use Rattle.kind.specs.declared.Product.{Product}
 use Rattle.element.specs.Element.{Element}
 use Rattle.rule.specs.Rule.{Rule}
+use Rattle.rule.specs.Places.{enabledAt}
 use Rattle.rule.specs.Laws.Parts.{front, front-long, back, back-long, sizeOf, headBytes, inner}
 use Rattle.deck.specs.Written.{written, startOf}
 use Rattle.deck.specs.Laws.Written.{written-is, opening, opening-long, before, before-long, rules, rules-cons, rules-later}
@@ -181,7 +181,7 @@ pub size-bound : (s : List ℕ) (at : ℕ) {z : Read} {v q : ℕ} → Bytes s �
 unfolding number
 size-bound s at bs e h = let o = seen-fits itself (number 4) s at bs e h in rw (o .1 .1) (o .1 .0)
 
-first-holds : (d : List ℕ) (n m : ℕ) (p : Product) (rs : List Rule) {b e size : ℕ} {y : List ℕ} (h : Here p (take n d) rs 1) → n ≤ length d → b ≡ startOf rs 1 → 23 ≤ b → e ≡ b + 4 + length (string .write (h .r .name)) → size ≡ sizeOf 1 (h .r .elements)
+first-holds : (d : List ℕ) (n m : ℕ) (p : Product) (rs : List Rule) {b e size : ℕ} {y : List ℕ} (h : Here p (take n d) rs 1) → n ≤ length d → b ≡ startOf rs 1 → 23 ≤ b → e ≡ enabledAt b (h .r) → size ≡ sizeOf 1 (h .r .elements)
     → y ≡ putIn (led d n b (e + 26) size) 5 (spelt 2 m) → Holds y (ledDeck m (h .r) (h .later)) (max n (n - (e + 26 + 2 - (e + 26 - (b - 7))) + 18)) d
 unfolding before back startOf startIn rules
 first-holds d n m p rs {b} {e} {size} h w eb wide ee es ey =
@@ -205,7 +205,7 @@ unfolding led
 led-is d n b h size e f g i j = rw (j, i, g, f, e)
 
 -- where the rule behind the first stands
-next-bounds : (n : ℕ) (d : List ℕ) (p : Product) (rs : List Rule) → Here p (take n d) rs 0 → (h : Here p (take n d) rs 1) → n ≤ length d → (23 ≤ startOf rs 1) × (startOf rs 1 + 4 + length (string .write (h .r .name)) + 28 ≤ n)
+next-bounds : (n : ℕ) (d : List ℕ) (p : Product) (rs : List Rule) → Here p (take n d) rs 0 → (h : Here p (take n d) rs 1) → n ≤ length d → (23 ≤ startOf rs 1) × (enabledAt (startOf rs 1) (h .r) + 28 ≤ n)
 unfolding sizeOf
 next-bounds n d p rs g h w =
     let B = before (length rs) (take 1 rs) in
@@ -224,7 +224,7 @@ module _ (edition n k m a b e : ℕ) (d : List ℕ) where
           let h = here (o .product) (take n d) (o .rs) 1 (o .sound) (omega (arith, o .many)) in
           let i = next-bounds n d (o .product) (o .rs) (here (o .product) (take n d) (o .rs) 0 (o .sound) (omega (arith, o .many))) h (o .within) in
           let eb : b ≡ startOf (o .rs) 1 = rw ek at (o .ends) in
-          let j : e ≡ startOf (o .rs) 1 + 4 + length (string .write (h .r .name)) = rw eb at z ∙ name-ends n d h in
+          let j : e ≡ enabledAt (startOf (o .rs) 1) (h .r) = rw eb at z ∙ name-ends n d h in
           record { many = l; wide = omega (arith, i .0, eb); order = omega (arith, j, eb); inside = omega (arith, i .1, j); room = o .within; short = omega (arith, o .sound .short, length-take-le n d (o .within)) }
 
   -- the name of the rule behind it can be read, and its Data Size
@@ -253,7 +253,7 @@ module _ (edition n k m a b e : ℕ) (d : List ℕ) where
           let l = second rs (g .later) (h .later) (g .r) (h .r) (g .from) (h .from) in
           let c = less rs (g .later) 0 (g .r) (g .from) (omega (arith, t .many)) .0 in
           let k : b ≡ startOf rs 1 = rw ek at eb in
-          let j : e ≡ b + 4 + length (string .write (h .r .name)) = ee ∙ name-end d b p 1 (h .r) (rw k (here-in n d h)) in
+          let j : e ≡ enabledAt b (h .r) = ee ∙ name-end d b p 1 (h .r) (rw k (here-in n d h)) in
           let v = size-is d b p 1 (h .r) (rw k (here-in n d h)) ee ez eg .0 in
           made-is n d (first-holds d n (m - 1) p rs h w k (t .wide) j v (rw ex at ey)) (at-rule rs 0 _ (g .from) ∙ ap become l) (sym (led-written (h .r) (h .later) (omega (arith, c, ap length l))))
           (rw k (first-long d n (m - 1) p rs h w)) (ap (max n) (led-sum n (b - 7) (e + 26) (omega (arith, t .wide, t .order)) (omega (arith, t .inside)))) (omega (arith, c, ap length l, sound-small n d o)) (omega (arith, t .wide, t .inside, t .short))

@@ -15,6 +15,7 @@ use Rattle.format.specs.Laws.ReadWrite.{length-spelt}
 use Rattle.text.specs.Text.{string}
 use Rattle.kind.specs.declared.Product.{Product}
 use Rattle.rule.specs.Rule.{Rule}
+use Rattle.rule.specs.Places.{enabledAt}
 use Rattle.rule.specs.Laws.Parts.{front, front-long, kept, back}
 use Rattle.deck.specs.Written.{written, startOf}
 use Rattle.deck.specs.Laws.Written.{before, rules}
@@ -41,7 +42,7 @@ pub record Named (n a e : ℕ) (d : List ℕ) : Type 0 where
 
 -- the name of a rule of a sound deck ends before Data Size
 module _ (n : ℕ) (d : List ℕ) (p : Product) (rs : List Rule) (k : ℕ) (h : Here p (take n d) rs k) where
-  name-inside : n ≤ length d → startOf rs k + 24 + length (string .write (h .r .name)) ≤ n
+  name-inside : n ≤ length d → enabledAt (startOf rs k) (h .r) + 20 ≤ n
   name-inside w =
       let B = before (length rs) (take k rs) in
       let L = back k (h .r .elements) ++ rules (k + 1) (h .later) in
@@ -54,12 +55,12 @@ found-named edition n k d {c} {m} {a} {b} {e} bs f g l z = go (ground (λ rs. k)
     go o =
         let h = here (o .product) (take n d) (o .rs) k (o .sound) (omega (arith, o .many)) in
         let i = name-inside n d (o .product) (o .rs) k h (o .within) in
-        let j : e ≡ startOf (o .rs) k + 4 + length (string .write (h .r .name)) = rw (o .starts) at z ∙ name-ends n d h in
+        let j : e ≡ enabledAt (startOf (o .rs) k) (h .r) = rw (o .starts) at z ∙ name-ends n d h in
         record { order = omega (arith, o .starts, j); inside = omega (arith, i, j); room = o .within; short = omega (arith, o .sound .short, length-take-le n d (o .within)) }
 
 -- the String gives way, and its place is filled
 renamed-holds : (d : List ℕ) (n : ℕ) (s : List ℕ) (p : Product) (rs : List Rule) (k : ℕ) {a e len : ℕ} {z y : List ℕ} (h : Here p (take n d) rs k) → n ≤ length d → Bytes s → isText s ≡ true
-    → a ≡ startOf rs k → e ≡ a + 4 + length (string .write (h .r .name)) → len ≡ textSize s → n - (e - (a + 4)) + len ≤ length d → z ≡ opened d n (a + 4) e len → y ≡ putIn z (a + 4) (textBytes s)
+    → a ≡ startOf rs k → e ≡ enabledAt a (h .r) → len ≡ textSize s → n - (e - (a + 4)) + len ≤ length d → z ≡ opened d n (a + 4) e len → y ≡ putIn z (a + 4) (textBytes s)
     → Holds y (before (length rs) (take k rs) ++ (front (renamed (units s) (h .r)) ++ (back k (h .r .elements) ++ rules (k + 1) (h .later)))) (max n (n - (e - (a + 4)) + len)) d
 unfolding front kept
 renamed-holds d n s p rs k {a} {e} {len} h w bs t ea ee el fits z y =
@@ -75,7 +76,7 @@ renamed-holds d n s p rs k {a} {e} {len} h w bs t ea ee el fits z y =
     rw q at f
 
 renamed-long : (d : List ℕ) (n : ℕ) (s : List ℕ) (p : Product) (rs : List Rule) (k : ℕ) {a e len : ℕ} (h : Here p (take n d) rs k) → n ≤ length d → Bytes s → isText s ≡ true
-    → a ≡ startOf rs k → e ≡ a + 4 + length (string .write (h .r .name)) → len ≡ textSize s
+    → a ≡ startOf rs k → e ≡ enabledAt a (h .r) → len ≡ textSize s
     → length (before (length rs) (take k rs) ++ (front (renamed (units s) (h .r)) ++ (back k (h .r .elements) ++ rules (k + 1) (h .later)))) ≡ n - (e - (a + 4)) + len
 renamed-long d n s p rs k h w bs t ea ee el =
     let B = before (length rs) (take k rs) in
@@ -107,7 +108,7 @@ module _ (edition n k m a b : ℕ) (s d : List ℕ) where
   becomes-long : (p : Product) (rs : List Rule) (h : Here p (take n d) rs k) {e len : ℕ} → n ≤ length d → k < length rs → Bytes s → isText s ≡ true → a ≡ startOf rs k → e ≡ nameEnd d a → len ≡ textSize s
       → length (written (take k rs ++ (renamed (units s) (h .r) ∷ h .later))) ≡ n - (e - (a + 4)) + len
   becomes-long p rs h {e} w l bs t ea ee el =
-      let g : e ≡ a + 4 + length (string .write (h .r .name)) = rw ea (rw ea at ee ∙ name-ends n d h) in
+      let g : e ≡ enabledAt a (h .r) = rw ea (rw ea at ee ∙ name-ends n d h) in
       ap length (written-here rs (h .later) k (h .r) (renamed (units s) (h .r)) (h .from) l) ∙ renamed-long d n s p rs k h w bs t ea g el
 
   -- it starts at a, and its name ends at e
@@ -128,6 +129,6 @@ module _ (edition n k m a b : ℕ) (s d : List ℕ) where
         where
           go : Here p (take n d) rs k → Does n (edited p (rename k s) rs) d o y
           go h =
-              let g : e ≡ a + 4 + length (string .write (h .r .name)) = rw ea (rw ea at ee ∙ name-ends n d h) in
+              let g : e ≡ enabledAt a (h .r) = rw ea (rw ea at ee ∙ name-ends n d h) in
               made-in n d j x (renamed-holds d n s p rs k h i bs t ea g el (omega (arith, roomy m new (length d) j x .inside)) ez ey) (becomes p rs h t) (sym (written-here rs (h .later) k (h .r) (renamed (units s) (h .r)) (h .from) (omega arith)))
               (renamed-long d n s p rs k h i bs t ea g el ∙ sym en) (omega arith) (em ∙ sym (many p rs h))

@@ -21,7 +21,7 @@ use Rattle.text.specs.Text.{stringLength, string}
 use Rattle.kind.specs.Kinds.{kinds, rowIn, rowOf}
 use Rattle.element.specs.Element.{Element, isRow, dataBy, identifier, element}
 use Rattle.rule.specs.Rule.{Rule, rule, fields, fromUnknown2, fromUnknown4, body, head, separator, placed}
-use Rattle.rule.specs.Places.{ruleBytes, elementsBytes, elementsAt, dataAt}
+use Rattle.rule.specs.Places.{ruleBytes, elementsBytes, elementsAt, dataAt, enabledAt}
 
 -- ---- of a rule that is known to stand at a place
 
@@ -130,7 +130,7 @@ bit-small true = lit< tt
 bit-small false = lit< tt
 
 module _ (p : Product) (i : ℕ) (s : List ℕ) (at : ℕ) (x : Rule) (u : List ℕ) where
-  pub rule-parts : Stands (rule p i) s at x u → RuleParts p i s at x u (at + 4 + length (string .write (x .name)))
+  pub rule-parts : Stands (rule p i) s at x u → RuleParts p i s at x u (enabledAt at x)
   unfolding rule fields fromUnknown2 fromUnknown4 sized measured flag via seq pair pairWrite judged number
   rule-parts b =
       let n = string .write (x .name) in
@@ -174,5 +174,5 @@ module _ (p : Product) (i : ℕ) (s : List ℕ) (at : ℕ) (x : Rule) (u : List 
 pub rule-elements : (p : Product) (i : ℕ) (s : List ℕ) (at : ℕ) (x : Rule) (u : List ℕ) → Stands (rule p i) s at x u → Row (placed p) s 0 (elementsAt p i at x) (x .elements) u
 rule-elements p i s at x u b =
     let y = rule-parts p i s at x u b in
-    let q = at + 4 + length (string .write (x .name)) + 24 in
+    let q = enabledAt at x + 24 in
     rw (y .begins) at (body-parts p i s q (x .elements) u (y .bodied) .elements)

@@ -26,7 +26,7 @@ use Rattle.text.specs.Text.{string}
 use Rattle.kind.specs.declared.Product.{Product}
 use Rattle.rule.specs.Rule.{Rule, rule}
 use Rattle.rule.specs.Laws.Parts.{front, back, sizeOf, body-size, rule-is}
-use Rattle.rule.specs.Places.{ruleBytes}
+use Rattle.rule.specs.Places.{ruleBytes, enabledAt}
 use Rattle.rule.specs.Laws.Places.{rule-parts}
 use Rattle.deck.specs.Deck.{deck, readAs}
 use Rattle.deck.specs.Laws.Deck.{deck-row, read-writes-back}
@@ -104,14 +104,14 @@ unfoldable pub nameEnd : List ℕ → ℕ → ℕ
 nameEnd s at = ended at (nameRead s at)
 
 module _ (s : List ℕ) (at : ℕ) where
-  pub name-read : (p : Product) (i : ℕ) (x : Rule) → Held (rule p i) s at x → nameRead s at ≡ Got (at + 4 + length (string .write (x .name))) (length (x .name))
+  pub name-read : (p : Product) (i : ℕ) (x : Rule) → Held (rule p i) s at x → nameRead s at ≡ Got (enabledAt at x) (length (x .name))
   unfolding nameRead pick
   name-read p i x b =
       let y = rule-parts p i s at x (b .0) (b .1) in
       let h : 4 ≤ length s - at = omega (arith, stands-room (rule p i) s at (b .1), y .ends) in
       rw (le-leb 4 (length s - at) h) (stands-seen length string s (at + 4) (y .named .1))
 
-  pub name-end : (p : Product) (i : ℕ) (x : Rule) → Held (rule p i) s at x → nameEnd s at ≡ at + 4 + length (string .write (x .name))
+  pub name-end : (p : Product) (i : ℕ) (x : Rule) → Held (rule p i) s at x → nameEnd s at ≡ enabledAt at x
   unfolding nameEnd
   name-end p i x b = ap (ended at) (name-read p i x b)
 

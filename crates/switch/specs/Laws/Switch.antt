@@ -13,6 +13,7 @@ use Rattle.format.specs.Laws.ReadWrite.{length-spelt}
 use Rattle.text.specs.Text.{string}
 use Rattle.kind.specs.declared.Product.{Product}
 use Rattle.rule.specs.Rule.{Rule}
+use Rattle.rule.specs.Places.{enabledAt}
 use Rattle.rule.specs.Laws.Parts.{front, front-long, kept, back}
 use Rattle.deck.specs.Laws.Written.{before, rules}
 use Rattle.deck.specs.Written.{startOf}
@@ -24,7 +25,7 @@ use Rattle.plan.specs.Laws.Found.{Makes, Does}
 use Rattle.plan.specs.Laws.Makes.{name-ends, sound-small, sound-short, replaced-long, written-here, at-rule, no-rule, made-no, made-is}
 
 -- Enabled is written over
-switched-holds : (d : List ℕ) (n : ℕ) (on : Bool) (p : Product) (rs : List Rule) (k : ℕ) {e : ℕ} {y : List ℕ} (h : Here p (take n d) rs k) → n ≤ length d → e ≡ startOf rs k + 4 + length (string .write (h .r .name)) → y ≡ putIn d e (spelt 4 (bit on))
+switched-holds : (d : List ℕ) (n : ℕ) (on : Bool) (p : Product) (rs : List Rule) (k : ℕ) {e : ℕ} {y : List ℕ} (h : Here p (take n d) rs k) → n ≤ length d → e ≡ enabledAt (startOf rs k) (h .r) → y ≡ putIn d e (spelt 4 (bit on))
     → Holds y (before (length rs) (take k rs) ++ (front (switched on (h .r)) ++ (back k (h .r .elements) ++ rules (k + 1) (h .later)))) n d
 unfolding front kept
 switched-holds d n on p rs k {e} {y} h w g z =
@@ -54,6 +55,6 @@ module _ (edition n k m a b : ℕ) (on : Bool) (d : List ℕ) where
   switch-done e {y} l g z p rs f o w em ea eb = go (here p (take n d) rs k o (omega arith))
     where
       go : Here p (take n d) rs k → Does n (edited p (switch k on) rs) d (Outcome.Done n) y
-      go h = let e′ : e ≡ startOf rs k + 4 + length (string .write (h .r .name)) = rw ea at g ∙ name-ends n d h in
+      go h = let e′ : e ≡ enabledAt (startOf rs k) (h .r) = rw ea at g ∙ name-ends n d h in
           made-is n d (switched-holds d n on p rs k h w e′ z) (at-rule rs k _ (h .from)) (sym (written-here rs (h .later) k (h .r) (switched on (h .r)) (h .from) (omega arith)))
           (same-long n d p rs k on h w) (omega arith) (rw (replaced-long rs (h .later) k (h .r) (switched on (h .r)) (h .from)) (sound-small n d o)) (sound-short n d w o)

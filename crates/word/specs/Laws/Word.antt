@@ -27,6 +27,7 @@ use Rattle.kind.specs.Kinds.{kinds, rowIn}
 use Rattle.element.specs.Data.{words}
 use Rattle.element.specs.Element.{Element}
 use Rattle.rule.specs.Rule.{Rule, rule}
+use Rattle.rule.specs.Places.{enabledAt}
 use Rattle.rule.specs.Laws.Rule.{rule-fits}
 use Rattle.rule.specs.Laws.Parts.{kept, front, back, headBytes, inner, sizeOf}
 use Rattle.deck.specs.Written.{written, startOf}
@@ -123,11 +124,11 @@ module _ (k : ℕ) (els : List Element) (e : ℕ) {c t : ℕ} (o : EndsInList k 
 unfoldable pub Lengthens : ℕ → ℕ → ℕ → ℕ → ℕ → List ℕ → List ℕ → Outcome → List ℕ → Type 0
 Lengthens n m e t c s d r d′ =
     (p : Product) (rs : List Rule) (k : ℕ) (h : Here p (take n d) rs k) (o : EndsInList k e (h .r .elements) c t) → h .later ≡ [] → n ≤ length d → m ≡ length rs
-    → e ≡ startOf rs k + 4 + length (string .write (h .r .name)) → textBytes s ≡ string .write (units s)
+    → e ≡ enabledAt (startOf rs k) (h .r) → textBytes s ≡ string .write (units s)
     → Does n (become (take k rs ++ (holding (take (length (h .r .elements) - 1) (h .r .elements) ++ ((o .id, words (o .ws ++ (units s ∷ []))) ∷ [])) (h .r) ∷ []))) d r d′
 
 module _ (n m e t c : ℕ) (s d : List ℕ) where
-  module _ {p : Product} {rs : List Rule} {k : ℕ} (h : Here p (take n d) rs k) (o : EndsInList k e (h .r .elements) c t) (z : h .later ≡ []) (w : n ≤ length d) (g : e ≡ startOf rs k + 4 + length (string .write (h .r .name))) (l : 0 < length (h .r .elements)) where
+  module _ {p : Product} {rs : List Rule} {k : ℕ} (h : Here p (take n d) rs k) (o : EndsInList k e (h .r .elements) c t) (z : h .later ≡ []) (w : n ≤ length d) (g : e ≡ enabledAt (startOf rs k) (h .r)) (l : 0 < length (h .r .elements)) where
     -- its bytes, Data Size and the number of words being S and C
     abbrev bytesWith : ℕ → ℕ → List ℕ
     bytesWith S C = before (length rs) (take k rs) ++ (front (h .r) ++ (spelt 4 S ++ (spelt 2 (length (h .r .elements)) ++ (headBytes k ++ (upTo k (h .r .elements) e o l ++ (spelt 4 C ++ tail k (h .r .elements) e o l s))))))
@@ -221,7 +222,7 @@ module _ (p : Product) (n m a : ℕ) (s d : List ℕ) where
     word-no-list k er = on-last p n m a d (addWord s) (withWord s) (λ rs. refl) _ _ l g (λ rs h z w v e′ a′. let u = made-no n d (list-none _ _ _ (sym (last-told h a′) ∙ k) _) in (er ∙ ap endSays k ∙ u .0, u .1))
 
     module _ {c t : ℕ} (k : y ≡ Read.Got t c) where
-      is-listed : {rs : List Rule} (h : Here p (take n d) rs (m - 1)) → e ≡ startOf rs (m - 1) + 4 + length (string .write (h .r .name)) → a ≡ startOf rs (m - 1) → EndsInList (m - 1) e (h .r .elements) c t
+      is-listed : {rs : List Rule} (h : Here p (take n d) rs (m - 1)) → e ≡ enabledAt (startOf rs (m - 1)) (h .r) → a ≡ startOf rs (m - 1) → EndsInList (m - 1) e (h .r .elements) c t
       is-listed {rs} h e′ a′ = ends-in-list p d (startOf rs (m - 1)) (m - 1) e (h .r) (here-in n d h) e′ (sym (last-told h a′) ∙ k)
 
       pub word-full : 64 ≤ c → MakesAs p lastOf n m a (addWord s) d (Outcome.No Fault.Full 0) d
