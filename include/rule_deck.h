@@ -16,7 +16,7 @@ extern "C" {
 
 /* The version of this header. Header and archive belong together where rule_deck_version() answers the same. */
 #define RULE_DECK_MAJOR 1
-#define RULE_DECK_MINOR 1
+#define RULE_DECK_MINOR 2
 #define RULE_DECK_VERSION (256 * RULE_DECK_MAJOR + RULE_DECK_MINOR)
 
 /* The editions. */
@@ -49,7 +49,7 @@ extern "C" {
  *                         the elements, with 0x8001 (2 bytes) between two
  *
  *   a String    1 byte    short form: number of units, 0 to 254;
- *               1 and 2   long form: 255, and number of units, 255
+ *               1 and 2   long form: 255, and number of units, 0 to 255
  *                         the units
  *
  *   a word      4 bytes   0
@@ -58,8 +58,9 @@ extern "C" {
  *   an element  4 bytes   identifier
  *                         data, by the identifier's kind
  *
- * A unit is 2 bytes, little-endian UTF-16, and may have any value: zero and lone surrogates, too. The elements of a
- * rule may come in any order. */
+ * A unit is 2 bytes, little-endian UTF-16, and may have any value: zero and lone surrogates, too. Up to 254 units may
+ * have either form, and keep it: a String is written as it was read. Only a name or a word that a call is given gets
+ * the shortest form, the long one for 255 units alone. The elements of a rule may come in any order. */
 
 #define RULE_DECK_LEAST_BYTES 7       /* of a deck: an empty one */
 #define RULE_DECK_MOST_BYTES 60000    /* of a deck */
@@ -153,7 +154,7 @@ enum rule_deck_case {
     RULE_DECK_CASE_WORDS = 4   /* COUNT; the words are shown by rule_deck_word_part */
 };
 
-/* The forms of a String. */
+/* The forms of a String (the deck, above): the one that it has, whatever its number of units. */
 enum rule_deck_form {
     RULE_DECK_FORM_SHORT = 0,
     RULE_DECK_FORM_LONG = 1
@@ -216,7 +217,7 @@ static inline const char *rule_deck_message(unsigned code) {
         RULE_DECK_SAYS_GIVEN(MARK, "the mark is wrong")
         RULE_DECK_SAYS_GIVEN(VERSION, "the version is wrong")
         RULE_DECK_SAYS_GIVEN(COUNT, "a number of rules, elements or words is out of its range")
-        RULE_DECK_SAYS_GIVEN(FORM, "a String has the long form for fewer than 255 units, or over 255 units")
+        RULE_DECK_SAYS_GIVEN(FORM, "a String has over 255 units")
         RULE_DECK_SAYS_GIVEN(FIELD, "a field or a value is not what it has to be")
         RULE_DECK_SAYS_GIVEN(UNKNOWN, "no edition has the identifier")
         RULE_DECK_SAYS_GIVEN(FOREIGN, "this edition does not have the identifier")
@@ -285,7 +286,7 @@ enum rule_deck_fields_column {
 enum rule_deck_part_column {
     RULE_DECK_PART_FIRST, /* the first byte, counted from the deck's */
     RULE_DECK_PART_BYTES, /* their number, two for each unit */
-    RULE_DECK_PART_FORM,  /* of the String, enum rule_deck_form */
+    RULE_DECK_PART_FORM,  /* that the String has there, enum rule_deck_form */
     RULE_DECK_PART_WIDTH
 };
 
@@ -417,7 +418,8 @@ uint64_t rule_deck_start(uint8_t *buf, size_t buf_len);
  * Codes: EDIT, 16 at 0. */
 uint64_t rule_deck_switch(uint64_t edition, uint8_t *buf, size_t buf_len, uint64_t stated, uint64_t k, bool on);
 
-/* Renames rule k. The name is the bytes of its units and must not lie in the buffer.
+/* Renames rule k. The name is the bytes of its units and must not lie in the buffer. It gets the shortest form,
+ * whichever the old one had.
  * Codes: EDIT, 16 at 0, 17, 19, 20. */
 uint64_t rule_deck_rename(uint64_t edition, uint8_t *buf, size_t buf_len, uint64_t stated, uint64_t k,
                           const uint8_t *name, size_t name_len);
@@ -427,26 +429,27 @@ uint64_t rule_deck_rename(uint64_t edition, uint8_t *buf, size_t buf_len, uint64
 uint64_t rule_deck_remove(uint64_t edition, uint8_t *buf, size_t buf_len, uint64_t stated, uint64_t k);
 
 /* Inserts at place k, 0 to the number of rules, a copy of rule j of a second deck, which is read in the same edition
- * and must not lie in the buffer.
+ * and must not lie in the buffer. The copy's name and words keep their forms.
  * Codes: EDIT, SECOND, 16 at 0, 16 at 1, 18, 19, 20. */
 uint64_t rule_deck_insert(uint64_t edition, uint8_t *buf, size_t buf_len, uint64_t stated, uint64_t k,
                           const uint8_t *second, size_t second_len, uint64_t j);
 
 /* Adds a rule at the end, with its name (the bytes of its units), its fixed fields (the signature is with Unknown1) and
- * its first element, an identifier and its data. Name and data must not lie in the buffer.
+ * its first element, an identifier and its data. Name and data must not lie in the buffer. The name gets the shortest
+ * form; words in the data keep theirs.
  * Codes: EDIT, 17, GIVEN, 18, 19, 20. */
 uint64_t rule_deck_add_rule(uint64_t edition, uint8_t *buf, size_t buf_len, uint64_t stated, const uint8_t *name,
                             size_t name_len, uint32_t signature, bool on, uint32_t unknown2, uint32_t unknown3,
                             uint32_t unknown4, uint32_t unknown5, uint32_t identifier, const uint8_t *data,
                             size_t data_len);
 
-/* Adds an element to the end of the last rule. The data must not lie in the buffer.
+/* Adds an element to the end of the last rule. The data must not lie in the buffer; words in it keep their forms.
  * Codes: EDIT, 22, 21, GIVEN, 19, 20. */
 uint64_t rule_deck_add_element(uint64_t edition, uint8_t *buf, size_t buf_len, uint64_t stated, uint32_t identifier,
                                const uint8_t *data, size_t data_len);
 
 /* Adds a word, the bytes of its units, to the end of the list that is the last element of the last rule. It must not
- * lie in the buffer.
+ * lie in the buffer. It gets the shortest form; the words before it keep theirs.
  * Codes: EDIT, 22, 21, 17, 19, 20. */
 uint64_t rule_deck_add_word(uint64_t edition, uint8_t *buf, size_t buf_len, uint64_t stated, const uint8_t *word,
                             size_t word_len);

@@ -1,5 +1,5 @@
-/* The header's constants against the archive: its version, the codes' messages, the widths of rows, the place of a
- * rule's state, the limits. */
+/* The header's constants against the archive: its version, the codes' messages, the widths of rows, a String's forms,
+ * the place of a rule's state, the limits. */
 #include <string.h>
 
 #include "answer.h"
@@ -76,6 +76,30 @@ static void widths(void) {
     FITS(RULE_DECK_VALUE_WIDTH, rule_deck_value(EDITION, LIST, no_words, sizeof no_words, v, n));
 }
 
+static void name_is(uint32_t form, uint32_t first) {
+    uint32_t name[RULE_DECK_PART_WIDTH];
+    done("name part", rule_deck_name_part(EDITION, deck, length, 0, name, RULE_DECK_PART_WIDTH));
+    if (name[RULE_DECK_PART_FORM] == form && name[RULE_DECK_PART_FIRST] == first) return;
+    printf("the name has form %u and its units start at %u\n", name[RULE_DECK_PART_FORM], name[RULE_DECK_PART_FIRST]);
+    exit(1);
+}
+
+/* An empty name is told in the form that it has; a rename gives it the shortest. */
+static void forms(void) {
+    static const uint8_t long_form[] = {0xFF, 0, 0};
+    uint8_t *string = deck + RULE_DECK_LEAST_BYTES + 4;
+    build();
+    name_is(RULE_DECK_FORM_SHORT, 12);
+    memmove(string + 3, string + 1, length - 12);
+    memcpy(string, long_form, sizeof long_form);
+    length += 2;
+    name_is(RULE_DECK_FORM_LONG, 14);
+    length = done("rename", rename_rule(0));
+    name_is(RULE_DECK_FORM_SHORT, 12);
+    length = done("rename", rename_rule(RULE_DECK_MOST_TEXT));
+    name_is(RULE_DECK_FORM_LONG, 14);
+}
+
 static bool is_on(void) {
     uint32_t rule[RULE_DECK_RULE_WIDTH], list[RULE_DECK_ELEMENT_WIDTH];
     done("read", rule_deck_read(EDITION, deck, length, rule, RULE_DECK_RULE_WIDTH, list, RULE_DECK_ELEMENT_WIDTH));
@@ -132,6 +156,7 @@ int main(void) {
     build();
     widths();
     states();
+    forms();
     counts();
     bytes();
     return 0;

@@ -7,6 +7,7 @@ use baseline::element::{Data, Element};
 use baseline::kind::{identifiers_of, row, Kind};
 use baseline::lister::list;
 use baseline::random::{damage, data, rules, rules_of_size, small_rule, Random};
+use baseline::text::{Form, Text};
 use baseline::STUDIO;
 
 /// The numbers that a read as Studio into the lister's tables can give: the edition is sound, so not 1; Studio has all
@@ -41,7 +42,13 @@ fn number_of(bytes: &[u8]) -> Option<u64> {
 
 fn rule(on: bool, units: usize, elements: Vec<Element>) -> Rule {
     let fixed = Fixed { signature: 0x0403_0201, on, unknown: [u32::MAX, 0, 7, 1] };
-    Rule { fixed, name: (0..units as u16).map(|u| u.wrapping_mul(0x9E37)).collect(), elements }
+    Rule { fixed, name: Text::shortest((0..units as u16).map(|u| u.wrapping_mul(0x9E37)).collect()), elements }
+}
+
+/// The same rule, its name and words in the long form.
+fn long(mut rule: Rule) -> Rule {
+    rule.strings().into_iter().for_each(|text| text.form = Form::Long);
+    rule
 }
 
 fn simple(count: usize) -> Vec<Element> {
@@ -60,7 +67,7 @@ fn every_identifier() -> Vec<Element> {
 }
 
 fn words(lengths: &[usize]) -> Element {
-    Element { identifier: 0x219, data: Data::Words(lengths.iter().map(|&n| vec![0x263A; n]).collect()) }
+    Element { identifier: 0x219, data: Data::Words(lengths.iter().map(|&n| Text::shortest(vec![0x263A; n])).collect()) }
 }
 
 fn states(decks: &mut Decks) {
@@ -77,6 +84,10 @@ fn names(decks: &mut Decks) {
     for n in [0, 1, 2, 9, 10, 99, 100, 127, 128, 253, 254, 255] {
         decks.rules(format!("name_{n}"), &[rule(n % 2 == 0, n, simple(2))]);
         decks.rules(format!("names_{n}"), &[rule(true, 255 - n, simple(1)), rule(false, n, simple(3))]);
+    }
+    for n in [0, 1, 2, 9, 10, 99, 100, 127, 128, 253, 254] {
+        decks.rules(format!("name_{n}_long"), &[long(rule(n % 2 == 0, n, simple(2)))]);
+        decks.rules(format!("names_{n}_long"), &[rule(true, 254 - n, simple(1)), long(rule(false, n, simple(3)))]);
     }
 }
 
@@ -102,7 +113,9 @@ fn kinds(decks: &mut Decks) {
     let alone: Vec<Rule> = all.iter().map(|element| rule(false, 2, vec![element.clone()])).collect();
     decks.rules("identifiers_in_rules".into(), &alone);
     for (i, lengths) in [vec![], vec![0], vec![254], vec![255], vec![0, 255, 1], vec![3; 64]].iter().enumerate() {
-        decks.rules(format!("words_{i}"), &[rule(true, 0, vec![words(lengths), words(&[1]), words(lengths)])]);
+        let lists = rule(true, 0, vec![words(lengths), words(&[1]), words(lengths)]);
+        decks.rules(format!("words_{i}"), &[lists.clone()]);
+        decks.rules(format!("words_{i}_long"), &[long(lists)]);
     }
 }
 
@@ -136,9 +149,10 @@ fn every_damage(deck: &[u8]) -> Vec<Vec<u8>> {
 
 /// For each number, decks that are refused with it at different places, spread over those that damages give.
 fn refusals(decks: &mut Decks) {
-    let long = write(&[rule(true, 255, vec![words(&[255, 0]), words(&[])]), rule(false, 0, every_identifier())]);
+    let lists = vec![words(&[255, 0]), words(&[])];
+    let deck = write(&[long(rule(true, 254, lists)), rule(false, 0, every_identifier())]);
     let mut seen: Vec<(String, Vec<u8>)> = Vec::new();
-    for damaged in every_damage(&long) {
+    for damaged in every_damage(&deck) {
         let said = list(&damaged);
         if said.starts_with("REFUSED") && !seen.iter().any(|(other, _)| *other == said) {
             seen.push((said, damaged));

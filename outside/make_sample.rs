@@ -4,6 +4,7 @@ mod baseline;
 use baseline::deck::{check, write, Fixed, Rule};
 use baseline::element::{Data, Element, Span};
 use baseline::kind::{MARKER, SIMPLE_ACTIONS, SIMPLE_CONDITIONS, SIMPLE_EXCEPTIONS};
+use baseline::text::Text;
 use baseline::STUDIO;
 
 fn units(text: &str) -> Vec<u16> {
@@ -12,7 +13,7 @@ fn units(text: &str) -> Vec<u16> {
 
 fn rule(name: Vec<u16>, on: bool, elements: Vec<Element>) -> Rule {
     let fixed = Fixed { signature: 0x0100_0614, on, unknown: [1, 0, u32::MAX, 7] };
-    Rule { fixed, name, elements }
+    Rule { fixed, name: Text::shortest(name), elements }
 }
 
 fn simple(identifier: u32) -> Element {
@@ -32,7 +33,7 @@ fn dates(identifier: u32, (after_set, after): Bound, (before_set, before): Bound
 }
 
 fn words(identifier: u32, list: Vec<Vec<u16>>) -> Element {
-    Element { identifier, data: Data::Words(list) }
+    Element { identifier, data: Data::Words(list.into_iter().map(Text::shortest).collect()) }
 }
 
 fn every_simple() -> Rule {

@@ -9,6 +9,8 @@ mod cases;
 mod edit_cases;
 #[path = "vectors/file.rs"]
 mod file;
+#[path = "vectors/form_cases.rs"]
+mod form_cases;
 #[path = "vectors/limit_cases.rs"]
 mod limit_cases;
 #[path = "vectors/pack.rs"]
@@ -48,6 +50,8 @@ fn files() -> Vec<File> {
         edit_cases::all_given(),
         edit_cases::all_orders(),
         edit_cases::all_runs(),
+        form_cases::all_forms(),
+        form_cases::all_strings(),
         limit_cases::all_lengths(),
         limit_cases::all_counts(),
     ]

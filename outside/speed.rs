@@ -13,11 +13,12 @@ use baseline::deck::{write, Fixed, Rule};
 use baseline::edit::Edit;
 use baseline::element::{Data, Element, Span};
 use baseline::random::small_rule;
+use baseline::text::Text;
 
 const ROOM: usize = 60_000;
 
-fn text(n: usize) -> Vec<u16> {
-    (0x41..).take(n).collect()
+fn text(n: usize) -> Text {
+    Text::shortest((0x41..).take(n).collect())
 }
 
 /// One element of each kind; names, words and states by the rule's number.

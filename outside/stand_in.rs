@@ -1,6 +1,8 @@
 //! A stand-in for the archive, made of the baseline itself: with it the comparison must agree, and with a
 //! fault planted (by number, in the variable FAULT) it must find the fault. So a comparison that can't fail is noticed.
 mod baseline;
+#[path = "stand_in/forms.rs"]
+mod forms;
 
 use baseline::coded;
 use baseline::deck::{check, Fixed};
@@ -44,7 +46,7 @@ pub unsafe extern "C" fn rule_deck_check(edition: u64, deck: In, len: usize) -> 
     if fault() == 1 && len >= 62 {
         bytes[61] = 0; // an identifier looked up by its low 24 bits
     }
-    coded(check(edition, &bytes))
+    forms::checked(edition, &bytes, coded(check(edition, &bytes)))
 }
 
 /// What a read with a fault makes of a table of so many rules.
@@ -118,7 +120,7 @@ unsafe fn on(edition: u64, buf: Out, len: usize, length: u64, what: Edit) -> u64
     if fault() == 8 && answer == 19 && new == 0 && len < 60_001 {
         return 20; // 20 before 19
     }
-    answer
+    forms::left(buffer, &before[..(length as usize).min(len)], &what, answer)
 }
 
 #[no_mangle]
@@ -206,10 +208,10 @@ pub unsafe extern "C" fn rule_deck_add_word(
     on(edition, buf, len, length, Edit::AddWord { word: part(word, n).to_vec() })
 }
 
-/// 256 times the major number, plus the minor: 1.1.
+/// 256 times the major number, plus the minor: 1.2.
 #[no_mangle]
 pub extern "C" fn rule_deck_version() -> u64 {
-    257
+    258
 }
 
 #[no_mangle]
@@ -274,6 +276,9 @@ pub unsafe extern "C" fn rule_deck_word_part(
     let answer = coded(results::word_part(edition, part(deck, len), [k, e, w], table));
     if fault() == 13 && answer == 0 {
         table[1] /= 2; // units for bytes
+    }
+    if fault() == 31 && answer == 0 {
+        table[2] = u32::from(table[1] > 508); // the form that the number of units asks for
     }
     answer
 }

@@ -2,12 +2,20 @@
 //! planted (by number, in the variable FAULT) it must find the fault.
 mod baseline;
 
-use baseline::deck::MOST_BYTES;
+use baseline::deck::{read, MOST_BYTES};
 use baseline::lister::list;
+use baseline::text::Form;
+use baseline::STUDIO;
 use std::io::Read;
 
-/// One line as a lister with that fault prints it; `element` is its number within the deck.
-fn faulty_line(fault: u64, line: &str, element: usize) -> String {
+/// Whether the name of rule k has the long form.
+fn is_long(deck: &[u8], k: &str) -> bool {
+    let k: usize = k.parse().expect("a number");
+    read(STUDIO, deck).map_or(false, |deck| deck.rules[k].name.form == Form::Long)
+}
+
+/// One line of a deck's listing as a lister with that fault prints it; `element` is its number within the deck.
+fn faulty_line(fault: u64, deck: &[u8], line: &str, element: usize) -> String {
     let words: Vec<&str> = line.split(' ').collect();
     match (fault, words[0], &words[1..]) {
         (1, "REFUSED", [number, place]) => format!("REFUSED {place} {number}"),
@@ -15,6 +23,10 @@ fn faulty_line(fault: u64, line: &str, element: usize) -> String {
         (3, "ELEM", [_, identifier, size]) => format!("ELEM {element} {identifier} {size}"),
         (6, "RULE", [k, state, units, count]) => {
             format!("RULE {k} {state} {} {count}", 2 * units.parse::<usize>().expect("a number"))
+        }
+        (9, "RULE", [k, state, units, count]) if is_long(deck, k) => {
+            // two bytes of its length as a unit
+            format!("RULE {k} {state} {} {count}", 1 + units.parse::<usize>().expect("a number"))
         }
         (7, "ELEM", [i, identifier, size]) => format!("ELEM {i} {} {size}", identifier.to_lowercase()),
         (8, "END", [rules, elements]) => format!("END {elements} {rules}"),
@@ -32,7 +44,7 @@ fn faulty(fault: u64, bytes: &[u8]) -> String {
     let mut element = 0;
     let mut said = String::new();
     for line in text.lines() {
-        said += &(faulty_line(fault, line, element) + "\n");
+        said += &(faulty_line(fault, bytes, line, element) + "\n");
         element += usize::from(line.starts_with("ELEM"));
     }
     said

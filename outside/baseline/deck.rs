@@ -1,6 +1,7 @@
 //! The deck: read into a list of rules with their places, and written from the list.
-use super::element::{read_element, write_data, Element, ElementPlace};
-use super::reader::{write_string, write_word, Reader};
+use super::element::{read_element, write_data, Data, Element, ElementPlace};
+use super::reader::{write_word, Reader};
+use super::text::{write_string, Text, View};
 use super::{judge_edition, refuse, Answer};
 
 /// "A rule's fixed fields (signature with Unknown1, Enabled, Unknown2 to Unknown5)".
@@ -14,16 +15,27 @@ pub struct Fixed {
 #[derive(Clone, Debug, PartialEq, Eq)]
 pub struct Rule {
     pub fixed: Fixed,
-    pub name: Vec<u16>,
+    pub name: Text,
     pub elements: Vec<Element>,
 }
 
-/// Where a rule stands: start and end, first byte and end of its name's units, Enabled, and its elements.
+impl Rule {
+    /// Its name, then its words.
+    pub fn strings(&mut self) -> Vec<&mut Text> {
+        let words = self.elements.iter_mut().flat_map(|element| match &mut element.data {
+            Data::Words(words) => words.iter_mut(),
+            _ => [].iter_mut(),
+        });
+        std::iter::once(&mut self.name).chain(words).collect()
+    }
+}
+
+/// Where a rule stands: start and end, its name, Enabled, and its elements.
 #[derive(Clone, Debug, PartialEq, Eq)]
 pub struct RulePlace {
     pub start: usize,
     pub end: usize,
-    pub name: (usize, usize),
+    pub name: View,
     pub enabled: usize,
     pub elements: Vec<ElementPlace>,
 }
@@ -53,8 +65,7 @@ fn read_head(r: &mut Reader, first: bool) -> Answer<()> {
 fn read_rule(r: &mut Reader, edition: u64, first: bool) -> Answer<(Rule, RulePlace)> {
     let start = r.at;
     let signature = r.word()?;
-    let (name, name_first) = r.string()?;
-    let name_place = (name_first, r.at);
+    let (name, name_place) = r.string()?;
     let enabled = r.at;
     let on = r.flag()?;
     let unknown = [r.word()?, r.word()?, r.word()?, r.word()?];

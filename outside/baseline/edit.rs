@@ -1,7 +1,7 @@
 //! The seven edits, by their definition: read, edit the list, write, lay in the buffer.
 use super::deck::{read, write, Fixed, Rule, MOST_BYTES, MOST_ELEMENTS, MOST_RULES, MOST_WORDS};
 use super::element::{given_element, Data};
-use super::reader::units_of;
+use super::text::{units_of, Text};
 use super::{given, judge_edition, refuse, Answer};
 
 /// What an edit is asked for. Names and words are the bytes of their units.
@@ -25,12 +25,12 @@ fn rule_number(rules: &[Rule], k: u64, place: u64) -> Answer<usize> {
     }
 }
 
-/// "17: new name or word has an odd byte count or over 510 bytes".
-fn new_units(bytes: &[u8]) -> Answer<Vec<u16>> {
+/// "17: new name or word has an odd byte count or over 510 bytes"; "the shortest form for the name or word given".
+fn new_text(bytes: &[u8]) -> Answer<Text> {
     if bytes.len() % 2 == 1 || bytes.len() > 510 {
         return refuse(17, 0);
     }
-    Ok(units_of(bytes))
+    Ok(Text::shortest(units_of(bytes)))
 }
 
 fn insert(edition: u64, rules: &mut Vec<Rule>, k: u64, second: &[u8], j: u64) -> Answer<()> {
@@ -64,7 +64,7 @@ fn add_word(rules: &mut [Rule], word: &[u8]) -> Answer<()> {
     if words.len() == MOST_WORDS {
         return refuse(21, 0);
     }
-    words.push(new_units(word)?);
+    words.push(new_text(word)?);
     Ok(())
 }
 
@@ -77,7 +77,7 @@ pub fn edited(edition: u64, mut rules: Vec<Rule>, edit: &Edit) -> Answer<Vec<Rul
         }
         Edit::Rename { k, name } => {
             let k = rule_number(&rules, *k, 0)?;
-            rules[k].name = new_units(name)?;
+            rules[k].name = new_text(name)?;
         }
         Edit::Remove { k } => {
             let k = rule_number(&rules, *k, 0)?;
@@ -85,7 +85,7 @@ pub fn edited(edition: u64, mut rules: Vec<Rule>, edit: &Edit) -> Answer<Vec<Rul
         }
         Edit::Insert { k, second, j } => insert(edition, &mut rules, *k, second, *j)?,
         Edit::AddRule { name, fixed, identifier, data } => {
-            let name = new_units(name)?;
+            let name = new_text(name)?;
             let element = given_element(edition, *identifier, data)?;
             rules.push(Rule { fixed: *fixed, name, elements: vec![element] });
         }

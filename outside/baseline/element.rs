@@ -1,6 +1,7 @@
 //! Elements: an identifier and its data.
 use super::kind::{judge, Kind};
-use super::reader::{write_string, write_word, Reader};
+use super::reader::{write_word, Reader};
+use super::text::{write_string, Text, View};
 use super::{date, given, refuse, Answer, Refusal};
 
 #[derive(Clone, Copy, Debug, PartialEq, Eq)]
@@ -17,7 +18,7 @@ pub enum Data {
     Simple,
     Size { minimum: u32, maximum: u32 },
     Dates(Span),
-    Words(Vec<Vec<u16>>),
+    Words(Vec<Text>),
 }
 
 #[derive(Clone, Debug, PartialEq, Eq)]
@@ -26,12 +27,12 @@ pub struct Element {
     pub data: Data,
 }
 
-/// Where an element's data stands, and the units of its words: first byte and end.
+/// Where an element's data stands, and its words.
 #[derive(Clone, Debug, PartialEq, Eq)]
 pub struct ElementPlace {
     pub start: usize,
     pub end: usize,
-    pub words: Vec<(usize, usize)>,
+    pub words: Vec<View>,
 }
 
 fn read_date(r: &mut Reader) -> Answer<u64> {
@@ -58,19 +59,19 @@ fn read_span(r: &mut Reader) -> Answer<Span> {
 }
 
 /// "4-byte count 0 to 64, then the words"; a word "is 4 zero bytes and a String".
-fn read_words(r: &mut Reader, places: &mut Vec<(usize, usize)>) -> Answer<Vec<Vec<u16>>> {
+fn read_words(r: &mut Reader, places: &mut Vec<View>) -> Answer<Vec<Text>> {
     let count = r.count(4, 0, 64)?;
     let mut words = Vec::new();
     for _ in 0..count {
         r.constant(0)?;
-        let (units, first) = r.string()?;
-        places.push((first, r.at));
-        words.push(units);
+        let (word, place) = r.string()?;
+        places.push(place);
+        words.push(word);
     }
     Ok(words)
 }
 
-fn read_kind(r: &mut Reader, kind: Kind, places: &mut Vec<(usize, usize)>) -> Answer<Data> {
+fn read_kind(r: &mut Reader, kind: Kind, places: &mut Vec<View>) -> Answer<Data> {
     if kind == Kind::WordList {
         return Ok(Data::Words(read_words(r, places)?));
     }

@@ -13,7 +13,7 @@ fn lines(bytes: &[u8]) -> Answer<String> {
     let mut text = format!("DECK 1 {}\n", bytes.len());
     for (k, (rule, place)) in deck.rules.iter().zip(&deck.places).enumerate() {
         let state = if rule.fixed.on { "ON" } else { "OFF" };
-        text += &format!("RULE {k} {state} {} {}\n", rule.name.len(), rule.elements.len());
+        text += &format!("RULE {k} {state} {} {}\n", rule.name.units.len(), rule.elements.len());
         for (i, (element, at)) in rule.elements.iter().zip(&place.elements).enumerate() {
             text += &format!("ELEM {i} {:08X} {}\n", element.identifier, at.end - at.start);
         }

@@ -14,6 +14,7 @@ pub mod random;
 pub mod reader;
 pub mod results;
 pub mod tables;
+pub mod text;
 pub mod value;
 
 /// A refusal: its number of document 01's table, and its place.

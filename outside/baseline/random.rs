@@ -2,6 +2,7 @@
 use super::deck::{write, Fixed, Rule, MOST_BYTES};
 use super::element::{data_bytes, Data, Element, Span};
 use super::kind::{identifiers_of, row, Kind};
+use super::text::Text;
 use super::{DESK, STUDIO};
 
 pub struct Random(u64);
@@ -77,13 +78,28 @@ pub fn units(r: &mut Random) -> Vec<u16> {
     (0..n).map(|_| (r.next() >> 33) as u16).collect()
 }
 
-fn words(r: &mut Random) -> Vec<Vec<u16>> {
+/// A String, in either form where it may have both.
+pub fn text(r: &mut Random) -> Text {
+    let units = units(r);
+    if r.once_in(2) {
+        Text::long(units)
+    } else {
+        Text::shortest(units)
+    }
+}
+
+/// More units than a String may have.
+fn too_long(r: &mut Random) -> Text {
+    Text::long(vec![7; r.pick(&[256, 257, 511, 512])])
+}
+
+fn words(r: &mut Random) -> Vec<Text> {
     let n = match r.below(30) {
         0 => 64,
         1 => 63,
         _ => r.below(4),
     };
-    (0..n).map(|_| units(r)).collect()
+    (0..n).map(|_| text(r)).collect()
 }
 
 pub fn data(r: &mut Random, kind: Kind) -> Data {
@@ -119,7 +135,7 @@ pub fn rule(r: &mut Random, edition: u64) -> Rule {
         _ => 1 + r.below(4),
     };
     let elements = (0..n).map(|_| element(r, edition)).collect();
-    Rule { fixed: fixed(r), name: units(r), elements }
+    Rule { fixed: fixed(r), name: text(r), elements }
 }
 
 /// A list of rules whose deck has at most 60,000 bytes.
@@ -132,9 +148,10 @@ pub fn rules(r: &mut Random, edition: u64) -> Vec<Rule> {
     rules
 }
 
-pub fn small_rule(identifier: u32, name: Vec<u16>) -> Rule {
+/// A rule with one simple element, its name in the shortest form.
+pub fn small_rule(identifier: u32, units: Vec<u16>) -> Rule {
     let fixed = Fixed { signature: 0, on: true, unknown: [0; 4] };
-    Rule { fixed, name, elements: vec![Element { identifier, data: Data::Simple }] }
+    Rule { fixed, name: Text::shortest(units), elements: vec![Element { identifier, data: Data::Simple }] }
 }
 
 /// Rules, of simple elements alone, whose deck has exactly that many bytes: 14,000 to 61,000.
@@ -154,6 +171,20 @@ pub fn rules_of_size(bytes: usize) -> Vec<Rule> {
     rules
 }
 
+/// The length bytes of a long form, with units or without.
+fn long_length(r: &mut Random) -> [u8; 3] {
+    [0xFF, r.pick(&[0, 1, 2, 0xFE, 0xFF]), r.pick(&[0, 0, 0, 1, 0xFF])]
+}
+
+/// One of the Strings becomes too long.
+fn lengthen(r: &mut Random, rules: &mut [Rule]) {
+    let mut strings: Vec<&mut Text> = rules.iter_mut().flat_map(|rule| rule.strings()).collect();
+    let i = r.below(strings.len() + 1);
+    if let Some(text) = strings.get_mut(i) {
+        **text = too_long(r);
+    }
+}
+
 /// The bytes with one or more faults in them.
 pub fn damage(r: &mut Random, bytes: &mut Vec<u8>) {
     for _ in 0..1 + r.below(2) {
@@ -164,7 +195,7 @@ pub fn damage(r: &mut Random, bytes: &mut Vec<u8>) {
             2 => bytes.insert(at, r.next() as u8),
             3 if at < bytes.len() => drop(bytes.remove(at)),
             4 if at < bytes.len() => bytes[at] = r.pick(&[0, 1, 2, 0x7F, 0x80, 0xF5, 0xFE, 0xFF]),
-            5 if bytes.len() > 13 => bytes[11..13].copy_from_slice(&[0xFF, r.pick(&[0, 0xFE, 0xFF])]), // a first name's length
+            5 if bytes.len() > 13 => bytes[11..14].copy_from_slice(&long_length(r)), // a first name's
             _ if at < bytes.len() => bytes[at] ^= 1 << r.below(8),
             _ => {}
         }
@@ -174,7 +205,11 @@ pub fn damage(r: &mut Random, bytes: &mut Vec<u8>) {
 /// A deck that mostly is sound in that edition.
 pub fn deck(r: &mut Random, edition: u64) -> Vec<u8> {
     let edition = if r.once_in(12) { DESK + STUDIO - edition } else { edition };
-    let mut bytes = write(&rules(r, edition));
+    let mut rules = rules(r, edition);
+    if r.once_in(40) {
+        lengthen(r, &mut rules);
+    }
+    let mut bytes = write(&rules);
     if r.once_in(4) {
         damage(r, &mut bytes);
     }
@@ -186,7 +221,11 @@ pub fn deck(r: &mut Random, edition: u64) -> Vec<u8> {
 
 /// Data of that kind, sound or not.
 pub fn given_data(r: &mut Random, kind: Kind) -> Vec<u8> {
-    let mut bytes = data_bytes(&data(r, kind));
+    let mut data = data(r, kind);
+    if let (Data::Words(words), true) = (&mut data, r.once_in(12)) {
+        words.insert(0, too_long(r));
+    }
+    let mut bytes = data_bytes(&data);
     match r.below(12) {
         0 => damage(r, &mut bytes),
         1 => bytes.push(0),
@@ -196,7 +235,7 @@ pub fn given_data(r: &mut Random, kind: Kind) -> Vec<u8> {
             bytes[at..at + 8].copy_from_slice(&any_date(r).to_le_bytes());
         }
         4 if kind == Kind::WordList => bytes[..4].copy_from_slice(&(60 + r.below(10) as u32).to_le_bytes()),
-        5 if kind == Kind::WordList && bytes.len() > 8 => bytes[8] = 0xFF, // the first word's length
+        5 if kind == Kind::WordList && bytes.len() > 10 => bytes[8..11].copy_from_slice(&long_length(r)), // a first word's
         _ => {}
     }
     bytes

@@ -1,4 +1,5 @@
 //! Fields read left to right, each judged as soon as it is read; and the same fields written.
+use super::text::{units_of, Form, Text, View};
 use super::{refuse, Answer};
 
 pub struct Reader<'a> {
@@ -71,41 +72,24 @@ impl<'a> Reader<'a> {
         Ok(n)
     }
 
-    /// A String and the place of its units: "its length bytes, then 7, then its units; a cut answers its start".
-    pub fn string(&mut self) -> Answer<(Vec<u16>, usize)> {
+    /// A String and where it stands: "its length bytes, then 7, then its units; a cut answers its start".
+    pub fn string(&mut self) -> Answer<(Text, View)> {
         let start = self.here();
         self.string_parts().or_else(|r| refuse(r.number, start))
     }
 
-    fn string_parts(&mut self) -> Answer<(Vec<u16>, usize)> {
-        let mut units = self.number(1)?;
-        if units == 0xFF {
-            units = self.number(2)?;
-            if units != 255 {
-                return refuse(7, 0);
-            }
+    /// "FF means that a 2-byte length follows"; "7 remains for more than 255 units".
+    fn string_parts(&mut self) -> Answer<(Text, View)> {
+        let (form, units) = match self.number(1)? {
+            0xFF => (Form::Long, self.number(2)? as usize),
+            units => (Form::Short, units as usize),
+        };
+        if units > form.most() {
+            return refuse(7, 0);
         }
         let first = self.at;
-        let bytes = self.field(2 * units as usize)?;
-        Ok((units_of(bytes), first))
-    }
-}
-
-/// 16-bit units from their bytes.
-pub fn units_of(bytes: &[u8]) -> Vec<u16> {
-    bytes.chunks(2).map(|p| u16::from_le_bytes([p[0], p[1]])).collect()
-}
-
-/// "254 units or fewer use the short form and 255 the long one."
-pub fn write_string(out: &mut Vec<u8>, units: &[u16]) {
-    if units.len() <= 254 {
-        out.push(units.len() as u8);
-    } else {
-        out.push(0xFF);
-        out.extend_from_slice(&(units.len() as u16).to_le_bytes());
-    }
-    for unit in units {
-        out.extend_from_slice(&unit.to_le_bytes());
+        let units = units_of(self.field(2 * units)?);
+        Ok((Text { form, units }, View { form, first, end: self.at }))
     }
 }
 

@@ -5,6 +5,7 @@ use super::deck::{read, Deck};
 use super::element::Span;
 use super::kind::{alone, judge, role};
 use super::tables::{fixed_in, name_in, word_in};
+use super::text::View;
 use super::value::{self, value_of, Value};
 use super::{given, judge_edition, refuse, Answer};
 
@@ -40,11 +41,9 @@ pub fn fields_in(deck: &Deck, k: u64, table: &mut [u32]) -> Answer<u64> {
     lay(table, FIELDS, &[fixed.signature, u32::from(fixed.on), u2, u3, u4, u5])
 }
 
-/// First byte and number of bytes of a view, and the String's form: "254 units or fewer use the short form
-/// and 255 the long one", 0 short, 1 long.
-fn part((first, end): (usize, usize)) -> [u32; PART] {
-    let bytes = (end - first) as u32;
-    [first as u32, bytes, u32::from(bytes / 2 > 254)]
+/// First byte and number of bytes of a view, and the form that the String has there: 0 short, 1 long.
+fn part(view: View) -> [u32; PART] {
+    [view.first as u32, (view.end - view.first) as u32, view.form as u32]
 }
 
 pub fn name_part(edition: u64, bytes: &[u8], k: u64, table: &mut [u32]) -> Answer<u64> {

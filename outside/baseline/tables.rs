@@ -1,6 +1,7 @@
 //! Reading into lent tables, views of names and words, fixed fields.
 use super::deck::{read, Deck, Fixed, RulePlace};
 use super::element::ElementPlace;
+use super::text::View;
 use super::{refuse, Answer};
 
 /// Numbers of a row.
@@ -9,7 +10,7 @@ pub const ELEMENT_WIDTH: usize = 4;
 
 /// Start, end, first byte of the name's units, number of elements, offset of Enabled.
 fn rule_row(place: &RulePlace) -> [u32; RULE_WIDTH] {
-    [place.start, place.end, place.name.0, place.elements.len(), place.enabled].map(|n| n as u32)
+    [place.start, place.end, place.name.first, place.elements.len(), place.enabled].map(|n| n as u32)
 }
 
 fn rule_rows(deck: &Deck) -> Vec<u32> {
@@ -55,35 +56,35 @@ fn nth<T>(list: &[T], k: u64, place: u64) -> Answer<&T> {
     }
 }
 
-/// The part of the deck that is the name of rule k: first byte and end.
-pub fn name(edition: u64, bytes: &[u8], k: u64) -> Answer<(usize, usize)> {
+/// The part of the deck that is the name of rule k.
+pub fn name(edition: u64, bytes: &[u8], k: u64) -> Answer<View> {
     name_in(&read(edition, bytes)?, k)
 }
 
-pub fn name_in(deck: &Deck, k: u64) -> Answer<(usize, usize)> {
+pub fn name_in(deck: &Deck, k: u64) -> Answer<View> {
     Ok(nth(&deck.places, k, 0)?.name)
 }
 
 /// The part that is word w of element e of rule k.
-pub fn word(edition: u64, bytes: &[u8], k: u64, e: u64, w: u64) -> Answer<(usize, usize)> {
+pub fn word(edition: u64, bytes: &[u8], k: u64, e: u64, w: u64) -> Answer<View> {
     word_in(&read(edition, bytes)?, k, e, w)
 }
 
-pub fn word_in(deck: &Deck, k: u64, e: u64, w: u64) -> Answer<(usize, usize)> {
+pub fn word_in(deck: &Deck, k: u64, e: u64, w: u64) -> Answer<View> {
     let rule = nth(&deck.places, k, 0)?;
     let element = nth(&rule.elements, e, 1)?;
     Ok(*nth(&element.words, w, 2)?)
 }
 
 /// The number and place of a view: done, its first byte.
-pub fn first_byte(view: Answer<(usize, usize)>) -> Answer<u64> {
-    view.map(|(first, _)| first as u64)
+pub fn first_byte(view: Answer<View>) -> Answer<u64> {
+    view.map(|view| view.first as u64)
 }
 
 /// The bytes of a view: "a refused view is the empty part at the start".
-pub fn part(bytes: &[u8], view: Answer<(usize, usize)>) -> &[u8] {
+pub fn part(bytes: &[u8], view: Answer<View>) -> &[u8] {
     match view {
-        Ok((first, end)) => &bytes[first..end],
+        Ok(view) => &bytes[view.first..view.end],
         Err(_) => &bytes[..0],
     }
 }

@@ -2,12 +2,13 @@
 use super::date::{accepted, civil, Civil};
 use super::deck::{check, read, write, Fixed, Rule};
 use super::edit::{edit, edited, start, Edit};
-use super::element::{data_bytes, Data, Element};
+use super::element::{data_bytes, given_element, Data, Element};
 use super::kind::{alone, identifiers, identifiers_of, row, Kind};
 use super::lister::list;
 use super::random::{self, Random};
 use super::results;
 use super::tables::{fill, fixed, name, part, word, ELEMENT_WIDTH, RULE_WIDTH};
+use super::text::{bytes_of, write_string, Form, Text};
 use super::value::{put_value, value_of, Value};
 use super::{coded, refuse, Answer, DESK, STUDIO};
 
@@ -59,15 +60,127 @@ fn second_of_two(rule: Rule) -> (Vec<u8>, usize) {
 
 #[test]
 fn enabled_in_the_row() {
-    for (units, length) in [(0, 1), (1, 1), (254, 1), (255, 3)] {
+    for (name, length) in texts() {
         for on in [false, true] {
             let fixed = Fixed { signature: u32::MAX, on, unknown: [u32::MAX; 4] };
-            let rule = Rule { fixed, name: vec![0xFFFF; units], ..random::small_rule(0xC8, vec![]) };
+            let rule = Rule { fixed, name: name.clone(), ..random::small_rule(0xC8, vec![]) };
             let (deck, at) = second_of_two(rule);
-            assert_eq!(at, 70 + 4 + length + 2 * units);
+            assert_eq!(at, 70 + 4 + length + 2 * name.units.len());
             assert_eq!(deck[at..at + 4], u32::from(on).to_le_bytes());
         }
     }
+}
+
+/// Strings of each form with few units and with many, and how many bytes their length takes.
+fn texts() -> Vec<(Text, usize)> {
+    let short = [0, 1, 254].map(|n| (Text { form: Form::Short, units: vec![0xFFFF; n] }, 1));
+    let long = [0, 1, 254, 255].map(|n| (Text { form: Form::Long, units: vec![0xFFFF; n] }, 3));
+    short.into_iter().chain(long).collect()
+}
+
+/// A deck of one rule, whose name is these bytes.
+fn named(string: &[u8]) -> Vec<u8> {
+    [&one_deck()[..11], string, &one_deck()[14..]].concat()
+}
+
+#[test]
+fn both_forms_are_read() {
+    for (text, length) in texts() {
+        let mut string = Vec::new();
+        write_string(&mut string, &text);
+        let n = text.units.len();
+        let says = if length == 3 { vec![0xFF, n as u8, 0] } else { vec![n as u8] };
+        assert_eq!(string, [says, vec![0xFF; 2 * n]].concat());
+        let deck = named(&string);
+        let rules = read(STUDIO, &deck).unwrap().rules;
+        assert_eq!((&rules[0].name, write(&rules)), (&text, deck));
+        let data = [&[1, 0, 0, 0, 0, 0, 0, 0], &string[..]].concat();
+        let element = given_element(STUDIO, 0x211, &data).unwrap();
+        assert_eq!((data_bytes(&element.data), element.data), (data, Data::Words(vec![text])));
+    }
+}
+
+#[test]
+fn more_than_255_units() {
+    for (length, units, number) in [
+        ([0xFF, 0x00, 0x01], 256, 7),
+        ([0xFF, 0x00, 0x01], 0, 7), // before a cut of its units
+        ([0xFF, 0xFF, 0xFF], 300, 7),
+        ([0xFF, 0xFF, 0x00], 254, 3),
+    ] {
+        let string = [&length[..], &vec![0; 2 * units]].concat();
+        let deck = [&one_deck()[..11], &string].concat();
+        assert_eq!(check(STUDIO, &deck), refuse(number, 11));
+        let data = [&[1, 0, 0, 0, 0, 0, 0, 0], &string[..]].concat();
+        assert_eq!(value_of(STUDIO, 0x211, &data), refuse(32 + number, 8));
+    }
+    for cut in [&[][..], &[0xFF], &[0xFF, 0]] {
+        assert_eq!(check(STUDIO, &[&one_deck()[..11], cut].concat()), refuse(3, 11));
+    }
+}
+
+/// The length that an edit answers, and the bytes that it leaves up to the longer of the two decks.
+fn edited_deck(deck: &[u8], what: &Edit) -> (u64, Vec<u8>) {
+    let mut buffer = [deck, &[0xA5; 600]].concat();
+    let length = edit(STUDIO, &mut buffer, deck.len() as u64, what).unwrap();
+    let most = deck.len().max(length as usize);
+    assert!(buffer[most..].iter().all(|&byte| byte == 0xA5));
+    buffer.truncate(most);
+    (length, buffer)
+}
+
+#[test]
+fn a_rename_takes_the_shortest_form() {
+    let long = named(&[0xFF, 1, 0, 0x41, 0]);
+    let (length, left) = edited_deck(&long, &Edit::Rename { k: 0, name: vec![0x41, 0] });
+    assert_eq!((length, left), (70, [&one_deck()[..], &[0, 0]].concat()));
+    for (text, _) in texts() {
+        let (_, left) = edited_deck(&long, &Edit::Rename { k: 0, name: bytes_of(&text.units) });
+        let short = left[11] < 0xFF;
+        assert_eq!(short, text.units.len() < 255);
+    }
+    assert_eq!(edited_deck(&long, &Edit::Switch { k: 0, on: false }).1[..16], long[..16]);
+}
+
+/// A rule whose Strings all have the long form: its name and two words.
+fn long_rule() -> Rule {
+    let words = vec![Text::long(vec![]), Text::long(vec![0x42])];
+    let list = Element { identifier: 0x213, data: Data::Words(words) };
+    Rule { name: Text::long(vec![0x41]), elements: vec![list], ..random::small_rule(0xC8, vec![]) }
+}
+
+#[test]
+fn an_inserted_rule_keeps_its_forms() {
+    let second = write(&[long_rule()]);
+    let (_, left) = edited_deck(&one_deck(), &Edit::Insert { k: 1, second, j: 0 });
+    let rules = read(STUDIO, &left).unwrap().rules;
+    assert_eq!(rules[1], long_rule());
+    assert_eq!(left[70 + 4..70 + 9], [0xFF, 1, 0, 0x41, 0]);
+}
+
+#[test]
+fn an_added_word_leaves_those_before_it() {
+    let deck = write(&[long_rule()]);
+    let (_, left) = edited_deck(&deck, &Edit::AddWord { word: vec![0x43, 0] });
+    let words = deck.len() - 16; // 4 zero bytes each, of the first 3 bytes and of the second 5
+    assert_eq!(left[words - 4..words], [3, 0, 0, 0]);
+    assert_eq!(left[words..deck.len()], deck[words..]);
+    assert_eq!(left[deck.len()..], [0, 0, 0, 0, 1, 0x43, 0]);
+}
+
+#[test]
+fn given_data_keeps_its_forms() {
+    let data = data_bytes(&long_rule().elements[0].data);
+    assert_eq!(data, [2, 0, 0, 0, 0, 0, 0, 0, 0xFF, 0, 0, 0, 0, 0, 0, 0xFF, 1, 0, 0x42, 0]);
+    let (name, fixed) = (vec![0x41, 0], long_rule().fixed);
+    let add = Edit::AddRule { name, fixed, identifier: 0x213, data: data.clone() };
+    let (_, left) = edited_deck(&write(&[]), &add);
+    assert!(left.ends_with(&data));
+    assert_eq!(left[11..14], [1, 0x41, 0]);
+    let deck = write(&[long_rule()]);
+    let (_, left) = edited_deck(&deck, &Edit::AddElement { identifier: 0x213, data: data.clone() });
+    assert!(left.ends_with(&data));
+    assert_eq!(left[11..16], deck[11..16]);
 }
 
 #[test]
@@ -188,11 +301,13 @@ fn parts_and_fields() {
     assert_eq!(lent(|table| results::name_part(STUDIO, &deck, 0, table)), (Ok(0), [12, 2, 0, 7]));
     assert_eq!(lent(|table| results::name_part(STUDIO, &deck, 0, table)), (refuse(14, 0), [7; 2]));
     assert_eq!(lent(|table| results::word_part(STUDIO, &deck, [0, 0, 0], table)), (refuse(16, 2), [7; 2]));
-    let words = vec![vec![], vec![0xD800; 254], vec![0; 255]];
+    let words = [vec![], vec![0xD800; 254], vec![0; 255]].map(Text::shortest).to_vec();
     let list = Element { identifier: 0x212, data: Data::Words(words) };
     let fixed = random::small_rule(0xC8, vec![]).fixed;
-    let deck =
-        write(&[Rule { fixed, name: vec![1; 254], elements: vec![list] }, random::small_rule(0xC8, vec![2; 255])]);
+    let deck = write(&[
+        Rule { fixed, name: Text::shortest(vec![1; 254]), elements: vec![list] },
+        random::small_rule(0xC8, vec![2; 255]),
+    ]);
     let word = |w| lent(|table| results::word_part(STUDIO, &deck, [0, 0, w], table));
     let start = 12 + 508 + 4 + 16 + 4 + 2 + 18 + 4; // the fields from the name to the list's data
     assert_eq!(lent(|table| results::name_part(STUDIO, &deck, 0, table)), (Ok(0), [12, 508, 0]));
@@ -202,6 +317,18 @@ fn parts_and_fields() {
     assert_eq!(word(3), (refuse(16, 2), [7; 3]));
     let second = start + 529 + 510;
     assert_eq!(lent(|table| results::name_part(STUDIO, &deck, 1, table)), (Ok(0), [second + 7, 510, 1]));
+}
+
+#[test]
+fn a_part_has_the_form_that_is_there() {
+    let deck = write(&[long_rule()]);
+    assert_eq!(lent(|table| results::name_part(STUDIO, &deck, 0, table)), (Ok(0), [14, 2, 1, 7]));
+    let word = |w| lent(|table| results::word_part(STUDIO, &deck, [0, 0, w], table));
+    let start = 16 + 4 + 16 + 4 + 2 + 18 + 4; // the fields from the name to the list's data
+    assert_eq!(word(0), (Ok(0), [start + 11, 0, 1]));
+    assert_eq!(word(1), (Ok(0), [start + 18, 2, 1]));
+    assert_eq!(name(STUDIO, &deck, 0).map(|view| view.first), Ok(14));
+    assert_eq!(list(&deck), format!("DECK 1 {}\nRULE 0 ON 1 1\nELEM 0 00000213 20\nEND 1 1\n", deck.len()));
 }
 
 #[test]
@@ -301,7 +428,7 @@ fn decks_round() {
 
 fn random_edit(r: &mut Random, rules: &[Rule]) -> Edit {
     let k = r.below(rules.len() + 1) as u64;
-    let name: Vec<u8> = random::units(r).iter().flat_map(|u| u.to_le_bytes()).collect();
+    let name = bytes_of(&random::units(r));
     let element = random::element(r, STUDIO);
     let data = data_bytes(&element.data);
     match r.below(7) {

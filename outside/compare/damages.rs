@@ -3,10 +3,15 @@ use crate::baseline::deck::{write, Fixed, Rule};
 use crate::baseline::element::{Data, Element, Span};
 use crate::baseline::kind::{identifiers_of, row, Kind};
 use crate::baseline::random::small_rule;
+use crate::baseline::text::{Form, Text};
 use crate::baseline::{DESK, STUDIO};
 use crate::decks::compare;
 use crate::share::pieces;
 use crate::{Outcome, Plan};
+
+fn text(form: Form, units: u16) -> Text {
+    Text { form, units: (0..units).collect() }
+}
 
 fn element(identifier: u32) -> Element {
     let data = match row(identifier) {
@@ -19,17 +24,21 @@ fn element(identifier: u32) -> Element {
             before: (-1.25f64).to_bits(),
         }),
         Some(Kind::WordList) => {
-            let n = identifier as usize % 3;
-            Data::Words((0..n as u16).map(|i| (0..i + 1).collect()).collect())
+            let n = identifier as u16 % 3;
+            Data::Words((1..=n).map(|units| text(Form::Short, units)).collect())
         }
         _ => Data::Simple,
     };
     Element { identifier, data }
 }
 
-fn rule(name: u16, elements: Vec<Element>) -> Rule {
-    let fixed = Fixed { signature: 0x0102_0304, on: name % 2 == 1, unknown: [5, 6, 7, 0xFFFF_FFFF] };
-    Rule { fixed, name: (0..name).collect(), elements }
+fn rule_in(form: Form, units: u16, elements: Vec<Element>) -> Rule {
+    let fixed = Fixed { signature: 0x0102_0304, on: units % 2 == 1, unknown: [5, 6, 7, 0xFFFF_FFFF] };
+    Rule { fixed, name: text(form, units), elements }
+}
+
+fn rule(units: u16, elements: Vec<Element>) -> Rule {
+    rule_in(Form::Short, units, elements)
 }
 
 /// All identifiers of the edition, a few to a rule.
@@ -38,8 +47,15 @@ fn every_kind(edition: u64) -> Vec<Rule> {
     identifiers.chunks(9).zip(1..).map(|(some, name)| rule(name, some.iter().map(|&i| element(i)).collect())).collect()
 }
 
-fn words(lengths: &[u16]) -> Element {
-    Element { identifier: 0x212, data: Data::Words(lengths.iter().map(|&n| (0..n).collect()).collect()) }
+fn words(texts: &[(Form, u16)]) -> Element {
+    let words = texts.iter().map(|&(form, units)| text(form, units)).collect();
+    Element { identifier: 0x212, data: Data::Words(words) }
+}
+
+/// Each form, and each with few units, beside the other.
+fn both_forms() -> Vec<Rule> {
+    let list = words(&[(Form::Long, 0), (Form::Short, 1), (Form::Long, 2), (Form::Short, 0)]);
+    vec![rule_in(Form::Long, 0, vec![element(0x64)]), rule_in(Form::Long, 3, vec![list]), rule(1, vec![element(0xC8)])]
 }
 
 pub fn decks() -> Vec<Vec<u8>> {
@@ -49,8 +65,10 @@ pub fn decks() -> Vec<Vec<u8>> {
         write(&[rule(0, vec![element(0x64)]), rule(1, vec![element(0x14F)])]),
         write(&every_kind(DESK)),
         write(&every_kind(STUDIO)),
-        write(&[rule(3, vec![words(&[0; 64])])]),
-        write(&[rule(255, vec![words(&[1])])]),
+        write(&[rule(3, vec![words(&[(Form::Short, 0); 64])])]),
+        write(&[rule_in(Form::Long, 255, vec![words(&[(Form::Short, 1)])])]),
+        write(&both_forms()),
+        write(&[rule_in(Form::Long, 254, vec![words(&[(Form::Long, 1)])])]),
     ]
 }
 

@@ -3,6 +3,7 @@ use crate::baseline::deck::{read, write, Deck};
 use crate::baseline::random::{deck, rules_of_size, Random};
 use crate::baseline::results::{fields_in, name_part_in, word_part_in, FIELDS, PART};
 use crate::baseline::tables::{fill_from, first_byte, name_in, word_in, ELEMENT_WIDTH, RULE_WIDTH};
+use crate::baseline::text::View;
 use crate::baseline::{coded, Answer, DESK, STUDIO};
 use crate::lent::{every_size, tables_differ};
 use crate::lesser::smallest_deck;
@@ -61,7 +62,7 @@ fn tables(edition: u64, bytes: &[u8], deck: &Answer<Deck>, far: bool) -> Option<
     asked.iter().find_map(|&(r, e)| table_pair(edition, bytes, deck, r, e))
 }
 
-fn view(call: &str, numbers: &[u64], archive: u64, baseline: Answer<(usize, usize)>) -> Option<String> {
+fn view(call: &str, numbers: &[u64], archive: u64, baseline: Answer<View>) -> Option<String> {
     let baseline = coded(first_byte(baseline));
     if archive == baseline {
         return None;

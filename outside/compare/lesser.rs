@@ -1,43 +1,69 @@
 //! Smaller cases of one that fails.
 use crate::baseline::deck::{read, write, Rule};
-use crate::baseline::element::Data;
+use crate::baseline::element::{Data, Element};
+use crate::baseline::text::Text;
 use crate::baseline::STUDIO;
 use std::time::Instant;
 
-/// Lists of rules that have one thing less.
+/// Lists of rules that have one thing less: a rule, an element, a word; units, or the long form.
 fn with_less(rules: &[Rule]) -> Vec<Vec<Rule>> {
     let mut lists = Vec::new();
-    let mut less = |k: usize, change: &dyn Fn(&mut Rule)| {
-        let mut list = rules.to_vec();
-        change(&mut list[k]);
-        lists.push(list);
-    };
-    for (k, rule) in rules.iter().enumerate() {
-        if !rule.name.is_empty() {
-            less(k, &|r| r.name.clear());
-            less(k, &|r| r.name.truncate(r.name.len() / 2));
-        }
-        for (e, element) in rule.elements.iter().enumerate() {
-            if rule.elements.len() > 1 {
-                less(k, &|r| drop(r.elements.remove(e)));
-            }
-            if let Data::Words(words) = &element.data {
-                for w in 0..words.len() {
-                    less(k, &|r| {
-                        if let Data::Words(words) = &mut r.elements[e].data {
-                            words.remove(w);
-                        }
-                    });
-                }
-            }
-        }
-    }
     for k in (0..rules.len()).rev() {
         let mut list = rules.to_vec();
         list.remove(k);
-        lists.insert(0, list);
+        lists.push(list);
+    }
+    for (k, rule) in rules.iter().enumerate() {
+        let less = lesser_rules(rule).into_iter().filter(|less| less != rule);
+        lists.extend(less.map(|less| [&rules[..k], &[less], &rules[k + 1..]].concat()));
     }
     lists
+}
+
+/// What a rule becomes by each of these changes.
+fn lesser_rules(rule: &Rule) -> Vec<Rule> {
+    let mut list = Vec::new();
+    let mut less = |change: &dyn Fn(&mut Rule)| {
+        let mut changed = rule.clone();
+        change(&mut changed);
+        list.push(changed);
+    };
+    for (e, element) in rule.elements.iter().enumerate() {
+        if rule.elements.len() > 1 {
+            less(&|r| drop(r.elements.remove(e)));
+        }
+        for w in 0..words(element) {
+            less(&|r| without_word(&mut r.elements[e], w));
+        }
+    }
+    for i in 0..rule.clone().strings().len() {
+        less(&|r| r.strings()[i].units.clear());
+        less(&|r| halve(&mut r.strings()[i].units));
+        less(&|r| in_shortest_form(r.strings()[i]));
+    }
+    list
+}
+
+/// How many words there are.
+fn words(element: &Element) -> usize {
+    match &element.data {
+        Data::Words(words) => words.len(),
+        _ => 0,
+    }
+}
+
+fn without_word(element: &mut Element, w: usize) {
+    if let Data::Words(words) = &mut element.data {
+        words.remove(w);
+    }
+}
+
+fn halve(units: &mut Vec<u16>) {
+    units.truncate(units.len() / 2);
+}
+
+fn in_shortest_form(text: &mut Text) {
+    *text = Text::shortest(std::mem::take(&mut text.units));
 }
 
 /// Decks that have one thing less, if this one is sound.

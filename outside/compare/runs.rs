@@ -5,6 +5,8 @@ use crate::baseline::edit::{edit, start, Edit};
 use crate::baseline::element::{Data, Element};
 use crate::baseline::kind::{row, Kind, WORD_LISTS};
 use crate::baseline::random::{self, Random};
+use crate::baseline::tables::{name, part};
+use crate::baseline::text::{Form, Text};
 use crate::baseline::{coded, DESK, STUDIO};
 use crate::lesser::lesser_decks;
 use crate::share::{hex, pieces, said, Answers};
@@ -214,8 +216,11 @@ fn simple_element() -> Element {
     Element { identifier: 0x12D, data: Data::Simple }
 }
 
-fn list_of(n: usize) -> Element {
-    Element { identifier: 0x211, data: Data::Words(vec![vec![]; n]) }
+/// A list of so many empty words, in both forms.
+fn list_of(r: &mut Random, n: usize) -> Element {
+    let form = |_| r.pick(&[Form::Short, Form::Long]);
+    let words = (0..n).map(form).map(|form| Text { form, units: Vec::new() }).collect();
+    Element { identifier: 0x211, data: Data::Words(words) }
 }
 
 /// The deck that a run begins with.
@@ -231,7 +236,7 @@ fn first_deck(r: &mut Random, theme: Theme, edition: u64) -> Vec<u8> {
     }
     if edition == STUDIO && (theme == Theme::ManyWords || theme == Theme::Big) {
         let n = if theme == Theme::Big { r.below(3) } else { 61 + r.below(4) };
-        rules.push(Rule { elements: vec![list_of(n)], ..random::small_rule(0x12D, vec![]) });
+        rules.push(Rule { elements: vec![list_of(r, n)], ..random::small_rule(0x12D, vec![]) });
     }
     while write(&rules).len() > MOST_BYTES {
         rules.remove(0);
@@ -269,6 +274,11 @@ fn new_units(r: &mut Random, state: &State, theme: Theme, more: usize) -> Vec<u8
         _ => 2 * r.below(6),
     };
     r.bytes(n)
+}
+
+/// The units that the name of rule k has: to be renamed by them changes its form, if anything.
+fn own_name(state: &State, k: u64) -> Vec<u8> {
+    part(state.deck(), name(STUDIO, state.deck(), k)).to_vec()
 }
 
 /// A number of a rule, mostly one that there is.
@@ -324,6 +334,7 @@ fn random_edit(r: &mut Random, state: &State, edition: u64, theme: Theme) -> Edi
         }
         (13..=15, _) | (0, Theme::Long) => Edit::Remove { k },
         (16..=17, _) => Edit::Switch { k, on: r.once_in(2) },
+        _ if r.once_in(8) => Edit::Rename { k, name: own_name(state, k) },
         _ => Edit::Rename { k, name: new_units(r, state, theme, 0) },
     }
 }

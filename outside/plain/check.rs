@@ -68,7 +68,7 @@ fn string(s: &[u8], at: usize) -> Answer<usize> {
     let [short] = field::<1>(s, at).map_err(cut)?;
     let (units, first) = match short {
         255 => match u16::from_le_bytes(field::<2>(s, at + 1).map_err(cut)?) {
-            255 => (255, at + 3),
+            n @ 0..=255 => (n as usize, at + 3),
             _ => return Err(Refused(7, at)),
         },
         n => (n as usize, at + 1),

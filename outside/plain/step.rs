@@ -13,7 +13,7 @@ pub fn u32_in(s: &[u8], at: usize) -> u32 {
 /// First byte of the units, and end, of a String.
 pub fn units(s: &[u8], at: usize) -> (usize, usize) {
     match s[at] {
-        255 => (at + 3, at + 3 + 510),
+        255 => (at + 3, at + 3 + 2 * u16_in(s, at + 1)),
         n => (at + 1, at + 1 + 2 * n as usize),
     }
 }

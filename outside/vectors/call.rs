@@ -3,6 +3,7 @@ use crate::baseline::deck::{check, Fixed};
 use crate::baseline::edit::{edit, start, Edit};
 use crate::baseline::results;
 use crate::baseline::tables::{fill, first_byte, name, part, word};
+use crate::baseline::text::View;
 use crate::baseline::{coded, Answer};
 
 pub const BASE: u8 = 0;
@@ -69,7 +70,7 @@ fn read(edition: u64, deck: &[u8], rules: u64, elements: u64) -> (u64, Vec<u8>) 
 }
 
 /// The answer of a view, and its bytes.
-fn shown(deck: &[u8], view: Answer<(usize, usize)>) -> (u64, Vec<u8>) {
+fn shown(deck: &[u8], view: Answer<View>) -> (u64, Vec<u8>) {
     (coded(first_byte(view)), part(deck, view).to_vec())
 }
 

@@ -69,7 +69,7 @@ fn long_results(file: &mut File) {
             edit(file, DESK, &deck, gap, &Edit::Insert { k: 0, second, j: 1 });
         }
         let last = rules.len() as u64 - 1;
-        let old = rules[last as usize].name.len();
+        let old = rules[last as usize].name.units.len();
         for n in near(old + gap / 2) {
             edit(file, STUDIO, &deck, gap + 5, &Edit::Rename { k: last, name: units(n) });
             edit(file, STUDIO, &deck, gap, &Edit::Rename { k: last, name: units(n) });
@@ -117,7 +117,7 @@ fn many_rules(file: &mut File) {
     }
     // 18 before 19: 256 rules of nearly 60,000 bytes, and one more
     let mut rules = vec![small_rule(0xC8, vec![6; 94]); 256];
-    rules[0].name = Vec::new();
+    rules[0].name.units.clear();
     let deck = write(&rules);
     file.base(&deck);
     for more in [0, 1000] {

@@ -6,6 +6,7 @@ use crate::baseline::kind::{identifiers_of, row, Kind};
 use crate::baseline::random::small_rule;
 use crate::baseline::results;
 use crate::baseline::tables::{ELEMENT_WIDTH, RULE_WIDTH};
+use crate::baseline::text::{Form, Text};
 use crate::baseline::value::value_of;
 use crate::baseline::{coded, DESK, STUDIO};
 use crate::call::*;
@@ -24,19 +25,30 @@ pub fn element(identifier: u32) -> Element {
         Some(Kind::Marker) => Data::Marker,
         Some(Kind::Size) => Data::Size { minimum: 9, maximum: 0x8000_0001 },
         Some(Kind::Dates) => Data::Dates(span(2.5, -1.25)),
-        Some(Kind::WordList) => Data::Words((0..identifier as u16 % 3).map(|n| vec![0x41; usize::from(n)]).collect()),
+        Some(Kind::WordList) => word_data(&[0, 1][..identifier as usize % 3], 0x41),
         _ => Data::Simple,
     };
     Element { identifier, data }
 }
 
+/// Words of so many units each, in the shortest form.
+fn word_data(lengths: &[usize], unit: u16) -> Data {
+    Data::Words(lengths.iter().map(|&n| Text::shortest(vec![unit; n])).collect())
+}
+
 pub fn words(lengths: &[usize]) -> Element {
-    Element { identifier: 0x212, data: Data::Words(lengths.iter().map(|&n| vec![0x263A; n]).collect()) }
+    Element { identifier: 0x212, data: word_data(lengths, 0x263A) }
 }
 
 pub fn rule(units: usize, elements: Vec<Element>) -> Rule {
     let fixed = Fixed { signature: 0x0403_0201, on: units % 2 == 1, unknown: [0x11, 0x2222, 0x33_3333, MOST as u32] };
-    Rule { fixed, name: (0..units as u16).map(|u| u.wrapping_mul(0x9E37)).collect(), elements }
+    Rule { fixed, name: Text::shortest((0..units as u16).map(|u| u.wrapping_mul(0x9E37)).collect()), elements }
+}
+
+/// The same rule, its name and words in the long form.
+pub fn long(mut rule: Rule) -> Rule {
+    rule.strings().into_iter().for_each(|text| text.form = Form::Long);
+    rule
 }
 
 /// Data of an element with the faults that its kind may have: cuts at each place, more bytes, other numbers.

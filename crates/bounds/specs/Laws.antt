@@ -7,3 +7,4 @@ pub mod Listed
 pub mod Faulty
 pub mod Calls
 pub mod Results
+pub mod Seven

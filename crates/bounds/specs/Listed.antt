@@ -25,7 +25,7 @@ Listed Fault.Mark q = q ≡ 0
 Listed Fault.Version q = q ≡ 3
 -- 6, count of rules, elements or words outside its range: the count
 Listed Fault.Count q = q ≤ 60000
--- 7, long form for fewer than 255 units, or over 255 units: the String
+-- 7, over 255 units (document 02, W5): the String
 Listed Fault.Form q = q ≤ 60000
 -- 8, any other field with a set value (Enabled, flags, heads, 8001, constants) differs: the field
 Listed Fault.Field q = q ≤ 60000

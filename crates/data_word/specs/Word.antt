@@ -4,15 +4,15 @@ use mathlib.Core.List.{List, [], _∷_}
 use lib.ListN.{length, drop}
 use Rattle.format.specs.declared.Fault.the-variants as Fault
 use Rattle.format.specs.Row.{startIn}
-use Rattle.text.specs.Text.{stringLength, word}
+use Rattle.text.specs.Text.{Text, word, unitsFrom}
 use Rattle.element.specs.Data.{Data, wordsOf}
 use Rattle.view.specs.declared.View.{View}
 use Rattle.view.specs.declared.View.the-variants.{At, No}
 
 -- the first of the words that stand from a place on: behind its 4 zero bytes and the String's length; "no such .. word": 16 at 2
-abbrev pub wordAt : ℕ → List (List ℕ) → View
+abbrev pub wordAt : ℕ → List Text → View
 wordAt at [] = No Fault.Absent 2
-wordAt at (us ∷ ws) = At (at + 4 + length (stringLength .write (length us))) (2 * length us)
+wordAt at (t ∷ ws) = At (unitsFrom (at + 4) t) (2 * length (t .units)) (t .form)
 
 -- word w of data that start at a place, behind the count; "or no word list there": other data have no words
 abbrev pub dataWord : ℕ → ℕ → Data → View

@@ -19,7 +19,7 @@ fn word_start(s: &[u8], at: usize, w: u64) -> Read
     let mut i = 0;
     let mut p = at;
     while i < w {
-        let r = text::word_at(s, p);
+        let r = text::word_end(s, p);
         let Read::Got(q, _) = r else {
             return r;
         };

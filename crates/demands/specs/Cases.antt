@@ -19,7 +19,8 @@ use Rattle.moment.specs.declared.Moment.{Moment}
 use Rattle.moment.specs.declared.Moment.the-variants as Moment
 use Rattle.moment.specs.Moment.{origin, dayIn, secondIn, momentSays, Says}
 use Rattle.moment.specs.Laws.Moment.{says-at, says-no}
-use Rattle.text.specs.Text.{extended, stringLength, string}
+use Rattle.text.specs.Length.{longLength, lengthBehind}
+use Rattle.text.specs.Text.{stringLength, stringOf}
 use Rattle.kind.specs.declared.Role.the-variants.{Condition}
 use Rattle.kind.specs.declared.Kind.{Kind}
 use Rattle.kind.specs.declared.Kind.the-variants.{Simple}
@@ -156,6 +157,6 @@ module _ (x : Bool × ℕ) (bits : ℕ) where
       ((e, eqb→eq (size bits * 4) (x .1 * day) (b .0)), (Moment.No Fault.Date 0, (says-no bits (not-true (accepted bits) (is-true (not (accepted bits)) (b .1 .0))), refl)))
 
 pub cases-hold : AllAnswer cases
-unfolding sample mark header deck whole readAs readBy readDeck className classHead firstHead head placed body fromUnknown4 fromUnknown2 fields rule identifier element oneZero simpleData editionOf has rowIn offered rowOf rowBy kindOf extended stringLength string sized measured weighed each eachRead counted listed number numberRead within count fixed bytes flag bit value pair pairRead seq _then_ judged judgeOf judge via home atStart nothing shift mapped andThen pick day leap monthsDays yearsDays dayOf origin dayIn secondIn
+unfolding sample mark header deck whole readAs readBy readDeck className classHead firstHead head placed body fromUnknown4 fromUnknown2 fields rule identifier element oneZero simpleData editionOf has rowIn offered rowOf rowBy kindOf longLength lengthBehind stringLength stringOf sized measured weighed each eachRead counted listed number numberRead within count fixed bytes flag bit value pair pairRead seq _then_ judged judgeOf judge via home atStart nothing shift mapped andThen pick day leap monthsDays yearsDays dayOf origin dayIn secondIn
 cases-hold =
     (refl, (refl, (refl, (refl, (refl, (refl, (refl, (refl, (refl, (refl, (refl, (date-on (plus 2 2) _ 1900 1 1 noon refl tt, (date-on (minus 1 1) _ 1899 12 29 six refl tt, (date-on (minus 0 1) _ 1899 12 30 six refl tt, (date-on (minus 657434 0) _ 100 1 1 0 refl tt, (date-on (plus 2958465 2) _ 9999 12 31 noon refl tt, (date-no (minus 657435 0) _ refl tt, (date-no (plus 2958466 0) _ refl tt, tt))))))))))))))))))

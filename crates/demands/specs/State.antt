@@ -48,7 +48,7 @@ module _ (edition : ℕ) (p : Product) (ed : editionOf edition ≡ Edition.Of p)
   -- the tables that were lent are rules and elements, and the read was done
   module _ (rules elements : List ℕ) (m : ℕ) (done : readSays (editionOf edition) (length rules) (length elements) s ≡ Done m) where
     -- "state ON or OFF, name units, elements"
-    pub rule-is-listed : ruleListed s k (drop (ruleWidth * k) (rulesAfter (editionOf edition) s rules elements)) ≡ ruleLine k (r .on) (length (r .name)) (length (r .elements))
+    pub rule-is-listed : ruleListed s k (drop (ruleWidth * k) (rulesAfter (editionOf edition) s rules elements)) ≡ ruleLine k (r .on) (length (r .name .units)) (length (r .elements))
     rule-is-listed =
         let tail = drop (ruleWidth * k) (rulesAfter (editionOf edition) s rules elements) in
         let row = rule-has-row edition p ed s rs n bs e rules elements m done k is-r in
@@ -57,7 +57,7 @@ module _ (edition : ℕ) (p : Product) (ed : editionOf edition ≡ Edition.Of p)
         let whole : tail ≡ row .start ∷ row .end ∷ row .units ∷ length (r .elements) ∷ row .enabled ∷ drop ruleWidth tail = sym (take-append-drop ruleWidth tail) ∙ ap (λ (w : List ℕ). w ++ drop ruleWidth tail) (row .is) in
         let is : row .enabled ≡ enabledAt (startOf rs k) r = row .stands ∙ ap (λ (a : ℕ). enabledAt a r) (row .starts) in
         let read : number 4 .read (drop (row .enabled) s) ≡ got (bit (r .on)) _ = ap (λ (a : ℕ). number 4 .read (drop a s)) is ∙ ap (number 4 .read) (on .1 .is) ∙ number 4 .back (bit (r .on)) (on .0) (on .1 .fit) in
-        ap (ruleListed s k) whole ∙ rule-listed-as s k (row .start) (row .end) (row .units) (length (r .elements)) (row .enabled) (length (r .name)) (r .on) (drop ruleWidth tail) (row .behind) read
+        ap (ruleListed s k) whole ∙ rule-listed-as s k (row .start) (row .end) (row .units) (length (r .elements)) (row .enabled) (length (r .name .units)) (r .on) (drop ruleWidth tail) (row .behind) read
 
     -- "element within its rule, identifier in eight upper-case hex digits, data bytes"
     pub element-is-listed : (i : ℕ) {x : Element} {others : List Element} → drop i (r .elements) ≡ x ∷ others

@@ -17,7 +17,7 @@ use Rattle.format.specs.ReadWrite.{pairWrite, spelt, bit, eachWrite}
 use Rattle.format.specs.Laws.ReadWrite.{length-spelt}
 use Rattle.format.specs.Combinators.{pair, via, judged, seq, _then_, number, fixed}
 use Rattle.format.specs.Row.{total, startIn}
-use Rattle.text.specs.Laws.Text.{string-length}
+use Rattle.text.specs.Laws.Text.{string-long}
 use Rattle.kind.specs.declared.Product.{Product}
 use Rattle.kind.specs.declared.Edition.{Edition}
 use Rattle.kind.specs.declared.Edition.the-variants as Edition
@@ -45,9 +45,9 @@ pub record RuleRow (p : Product) (s : List ℕ) (rs : List Rule) (k : ℕ) (r : 
   pub is : row ≡ start ∷ end ∷ units ∷ length (r .elements) ∷ enabled ∷ []
   pub starts : start ≡ startOf rs k
   pub written : Between s start end (rule p k .write r)
-  pub named : UnitsOf (r .name) (take (2 * length (r .name)) (drop units s))
+  pub named : UnitsOf (r .name .units) (take (2 * length (r .name .units)) (drop units s))
   pub stands : enabled ≡ enabledAt start r
-  pub behind : enabled ≡ units + 2 * length (r .name)
+  pub behind : enabled ≡ units + 2 * length (r .name .units)
   pub state : Between s enabled (enabled + 4) (spelt 4 (bit (r .on)))
 
 -- "Per element, four: identifier, rule number, start and end of data": a row of element i of rule k of rs, which are x and r
@@ -155,7 +155,7 @@ module _ (edition : ℕ) (p : Product) (ed : editionOf edition ≡ Edition.Of p)
           written = between (rule p k) s at (h .1);
           named = string-units s (at + 4) (y .named .1);
           stands = refl;
-          behind = omega (arith, string-length (r .name));
+          behind = omega (arith, string-long (r .name));
           state = four-between s (enabledAt at r) (y .switched .1);
         }
 

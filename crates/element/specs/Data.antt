@@ -6,7 +6,7 @@ use mathlib.Core.List.{List, []}
 use Rattle.format.specs.declared.Fault.the-variants as Fault
 use Rattle.format.specs.Format.{Format}
 use Rattle.format.specs.Combinators.{via, seq, _then_, number, count, fixed, flag, listed}
-use Rattle.text.specs.Text.{word}
+use Rattle.text.specs.Text.{word, Text}
 use Rattle.date.specs.Date.{date}
 use Rattle.kind.specs.declared.Kind.{Kind}
 use Rattle.kind.specs.declared.Kind.the-variants as Kind
@@ -19,19 +19,19 @@ pub record Limit : Type 0 where
 -- what the data says: of a marker and of a simple element nothing
 pub data Data : Type 0 where
   plain : Data
-  words : List (List ℕ) → Data
+  words : List Text → Data
   sizes : ℕ → ℕ → Data
   span : Limit → Limit → Data
 
 -- f of the words, where there are words
-abbrev pub ofWords : {W : Type 0} → W → (List (List ℕ) → W) → Data → W
+abbrev pub ofWords : {W : Type 0} → W → (List Text → W) → Data → W
 ofWords absent f plain = absent
 ofWords absent f (words ws) = f ws
 ofWords absent f (sizes a b) = absent
 ofWords absent f (span a b) = absent
 
 -- what a case of Data holds; of the other cases, anything
-abbrev pub wordsOf : Data → List (List ℕ)
+abbrev pub wordsOf : Data → List Text
 wordsOf d = ofWords [] (λ ws. ws) d
 
 abbrev pub sizesOf : Data → ℕ × ℕ

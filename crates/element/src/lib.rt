@@ -35,7 +35,7 @@ pub fn words_at(s: &[u8], at: usize, n: u64) -> Read
     let mut i = 0;
     let mut p = at;
     while i < n {
-        let r = text::word_at(s, p);
+        let r = text::word_end(s, p);
         let Read::Got(q, _) = r else {
             return r;
         };

@@ -2,6 +2,7 @@
 use format::Fault;
 use format::Read;
 use kind::Product;
+use text::StringRead;
 ghost use mathlib.Core.Path.{_≡_};
 ghost use Prim.Native.Nat.{_≤_, _<_, _+_, _^_};
 ghost use lib.ListN.{length};
@@ -106,14 +107,11 @@ fn fill_part(
     requires { ⌜ Small rule ⌝ }
     ensures { λ r. ⌜ PartFill product (now (rest .entry)) (rule .start) (rule .i) (rule .k) (now (rules .entry)) (now (rules .exit)) (now (elements .entry)) (now (elements .exit)) r × Under 200000 r ⌝ }
 {
-    let l = text::length_at(rest, 4);
-    let Read::Got(units, _) = l else {
-        return l;
-    };
     let name = text::string_at(rest, 4);
-    let Read::Got(enabled, _) = name else {
-        return name;
+    let StringRead::Got(enabled, form, _) = name else {
+        return text::end_of(name);
     };
+    let units = 4 + text::length_size(form);
     let r = fill_body(rest, enabled + 24, product, elements, rule);
     let Read::Got(end, n) = r else {
         return r;

@@ -19,7 +19,7 @@ numberOf Mark = 4
 numberOf Version = 5
 -- count of rules, elements or words outside its range
 numberOf Count = 6
--- long form for fewer than 255 units, or over 255 units
+-- a String of over 255 units: document 02, W5
 numberOf Form = 7
 -- any other field with a set value differs
 numberOf Field = 8

@@ -5,6 +5,7 @@ use mathlib.Core.List.{List, [], _∷_}
 use lib.Dec.{leb, eqb}
 use lib.ListN.{length}
 use Rattle.format.specs.Format.{Answer, refused, mapped, whole}
+use Rattle.text.specs.Text.{Text, shortest}
 use Rattle.kind.specs.declared.Product.{Product}
 use Rattle.kind.specs.declared.Row.{Row}
 use Rattle.kind.specs.declared.Row.the-variants as Row
@@ -21,6 +22,10 @@ unfoldable pub units : List ℕ → List ℕ
 units [] = []
 units (x ∷ []) = []
 units (x ∷ (y ∷ s)) = (x + 256 * y) ∷ units s
+
+-- "Renaming and adding use the shortest form for the name or word given"
+abbrev pub textOf : List ℕ → Text
+textOf s = shortest (units s)
 
 -- "A given element is an identifier, as a number, and its data as bytes; places in the data count from its first byte. 41 and 42 have place 0"
 abbrev pub withData : ℕ → Data → Element

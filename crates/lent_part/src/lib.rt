@@ -1,21 +1,21 @@
 // The name of a rule of a deck, or a word, as a part of the deck, in a lent table.
 use format::Outcome;
+use text::Form;
 use view::View;
 ghost use mathlib.Core.Path.{_≡_};
-ghost use Rattle.text.specs.Text.{formOf};
-ghost use Rattle.view.specs.View.{partSays};
+ghost use Rattle.view.specs.View.{formNumber, partSays};
 ghost use Rattle.name_view.specs.Name.{nameView};
 ghost use Rattle.word_view.specs.Word.{wordView};
 ghost use Rattle.view.specs.Laws.View.{Inside};
 ghost use Rattle.lent.specs.Lent.{partWidth, Lends};
 
-fn form_of(units: usize) -> u32
-    ensures { λ r. ⌜ r ≡ formOf units ⌝ }
+fn form_number(form: Form) -> u32
+    ensures { λ r. ⌜ r ≡ formNumber form ⌝ }
 {
-    if units == 255 {
-        return 1;
+    match form {
+        Form::Short => 0,
+        Form::Long => 1,
     }
-    0
 }
 
 // A view by its numbers.
@@ -24,7 +24,7 @@ fn put_part(t: &mut [u32], v: View) -> Outcome
     ensures { λ r. ⌜ Lends partWidth (now (t .entry)) (partSays v) r (now (t .exit)) ⌝ }
 {
     match v {
-        View::At(a, b) => lent::put_row(t, &[a as u32, b as u32, form_of(b / 2)]),
+        View::At(a, b, form) => lent::put_row(t, &[a as u32, b as u32, form_number(form)]),
         View::No(c, p) => Outcome::No(c, p),
     }
 }

@@ -10,7 +10,7 @@ use Rattle.view.specs.declared.View.the-variants.{At, No}
 
 -- the name of a rule that starts at a place: "exactly the bytes of its units"
 abbrev pub nameAt : ℕ → Rule → View
-nameAt at r = At (unitsAt at r) (2 * length (r .name))
+nameAt at r = At (unitsAt at r) (2 * length (r .name .units)) (r .name .form)
 
 unfoldable pub nameView : ℕ → ℕ → List ℕ → View
 nameView edition k s = asked No (λ p. nameAt) edition k s

@@ -20,7 +20,10 @@ fn name_at(s: &[u8], k: u64) -> View
     let Read::Got(at, _) = r else {
         return view::no_view(format::end_says(r));
     };
-    let t = steps::name_end(s, at);
+    if wire::left(s, at) < 4 {
+        return View::No(Fault::Cut, 0);
+    }
+    let t = text::string_at(s, at + 4);
     view::units_of(s, t)
 }
 

@@ -9,6 +9,7 @@ use Rattle.format.specs.declared.Fault.the-variants as Fault
 use Rattle.format.specs.declared.Outcome.{Outcome}
 use Rattle.format.specs.declared.Outcome.the-variants as Outcome
 use Rattle.format.specs.Format.{Answer, got, refused, pick}
+use Rattle.text.specs.Text.{Text}
 use Rattle.kind.specs.declared.Product.{Product}
 use Rattle.kind.specs.declared.Edition.{Edition}
 use Rattle.kind.specs.declared.Edition.the-variants as Edition
@@ -21,7 +22,7 @@ use Rattle.deck.specs.Deck.{readAs}
 use Rattle.deck.specs.Written.{written}
 use Rattle.buffer.specs.Laid.{laid}
 use Rattle.room.specs.Room.{roomFor}
-use Rattle.given.specs.Given.{isText, units, given}
+use Rattle.given.specs.Given.{isText, textOf, given}
 use mathlib.Core.Path.{_≡_}
 
 -- the seven edits, and what each is asked with: numbers of rules, texts as their bytes, the second deck, an element as identifier and data
@@ -44,15 +45,15 @@ pub data Plan : Type 0 where
 abbrev pub switched : Bool → Rule → Rule
 switched b r = record { signature = r .signature; name = r .name; on = b; unknown2 = r .unknown2; unknown3 = r .unknown3; unknown4 = r .unknown4; unknown5 = r .unknown5; elements = r .elements }
 
-abbrev pub renamed : List ℕ → Rule → Rule
-renamed us r = record { signature = r .signature; name = us; on = r .on; unknown2 = r .unknown2; unknown3 = r .unknown3; unknown4 = r .unknown4; unknown5 = r .unknown5; elements = r .elements }
+abbrev pub renamed : Text → Rule → Rule
+renamed t r = record { signature = r .signature; name = t; on = r .on; unknown2 = r .unknown2; unknown3 = r .unknown3; unknown4 = r .unknown4; unknown5 = r .unknown5; elements = r .elements }
 
 abbrev pub holding : List Element → Rule → Rule
 holding xs r = record { signature = r .signature; name = r .name; on = r .on; unknown2 = r .unknown2; unknown3 = r .unknown3; unknown4 = r .unknown4; unknown5 = r .unknown5; elements = xs }
 
 -- "a rule with its name, its fixed fields and first element"
-abbrev pub newRule : List ℕ → Fields → Element → Rule
-newRule us f x = record { signature = f .signature; name = us; on = f .on; unknown2 = f .unknown2; unknown3 = f .unknown3; unknown4 = f .unknown4; unknown5 = f .unknown5; elements = x ∷ [] }
+abbrev pub newRule : Text → Fields → Element → Rule
+newRule t f x = record { signature = f .signature; name = t; on = f .on; unknown2 = f .unknown2; unknown3 = f .unknown3; unknown4 = f .unknown4; unknown5 = f .unknown5; elements = x ∷ [] }
 
 -- ---- what is judged on the way
 
@@ -77,7 +78,7 @@ atLast [] f = refuse Fault.Last 0
 atLast (r ∷ later) f = f r
 
 -- the last element: "no word list" is 22
-unfoldable pub atList : List Element → (ℕ → List (List ℕ) → Plan) → Plan
+unfoldable pub atList : List Element → (ℕ → List Text → Plan) → Plan
 atList [] f = refuse Fault.Last 0
 atList ((id, plain) ∷ later) f = refuse Fault.Last 0
 atList ((id, words ws) ∷ later) f = f id ws
@@ -100,18 +101,18 @@ atGiven (refused c q) f = refuseGiven c q
 -- ---- the edits
 unfoldable pub edited : Product → Edit → List Rule → Plan
 edited p (switch k on) rs = atRule (drop k rs) λ r later. become (take k rs ++ (switched on r ∷ later))
-edited p (rename k name) rs = atRule (drop k rs) λ r later. ifText name (become (take k rs ++ (renamed (units name) r ∷ later)))
+edited p (rename k name) rs = atRule (drop k rs) λ r later. ifText name (become (take k rs ++ (renamed (textOf name) r ∷ later)))
 edited p (remove k) rs = atRule (drop k rs) λ r later. become (take k rs ++ later)
 -- "A place to insert at is 0 to the number of rules"
 edited p (insert k second j) rs =
     atSecond (readAs p second) λ qs. pick (leb k (length rs)) (atCopy (drop j qs) λ q. become (take k rs ++ (q ∷ drop k rs))) (refuse Fault.Absent 0)
-edited p (addRule name f id s) rs = ifText name (atGiven (given p id s) λ x. become (rs ++ (newRule (units name) f x ∷ [])))
+edited p (addRule name f id s) rs = ifText name (atGiven (given p id s) λ x. become (rs ++ (newRule (textOf name) f x ∷ [])))
 edited p (addElement id s) rs =
     atLast (drop (length rs - 1) rs) λ r. unlessFull (length (r .elements))
     (atGiven (given p id s) λ x. become (take (length rs - 1) rs ++ (holding (r .elements ++ (x ∷ [])) r ∷ [])))
 edited p (addWord word) rs =
     atLast (drop (length rs - 1) rs) λ r. atList (drop (length (r .elements) - 1) (r .elements)) λ id ws. unlessFull (length ws)
-    (ifText word (become (take (length rs - 1) rs ++ (holding (take (length (r .elements) - 1) (r .elements) ++ ((id, words (ws ++ (units word ∷ []))) ∷ [])) r ∷ []))))
+    (ifText word (become (take (length rs - 1) rs ++ (holding (take (length (r .elements) - 1) (r .elements) ++ ((id, words (ws ++ (textOf word ∷ []))) ∷ [])) r ∷ []))))
 
 -- what 18, 19 and 20 leave of the edited list
 abbrev pub ifDone : Outcome → List Rule → Plan

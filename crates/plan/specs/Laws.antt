@@ -2,3 +2,4 @@ pub mod Handed
 pub mod Found
 pub mod Makes
 pub mod Last
+pub mod Forms

@@ -6,7 +6,7 @@ use lib.Dec.{eqb}
 use Rattle.format.specs.Format.{pick}
 use Rattle.format.specs.ReadWrite.{eachWrite}
 use Rattle.kind.specs.declared.Product.{Product}
-use Rattle.text.specs.Text.{stringLength, string}
+use Rattle.text.specs.Text.{string, unitsFrom}
 use Rattle.element.specs.Element.{Element}
 use Rattle.rule.specs.Rule.{Rule, rule, placed}
 
@@ -19,7 +19,7 @@ elementsBytes p xs = length (eachWrite (placed p) 0 xs)
 
 -- the first byte of the units of a rule's name: behind the signature and the String's length
 abbrev pub unitsAt : ℕ → Rule → ℕ
-unitsAt at r = at + 4 + length (stringLength .write (length (r .name)))
+unitsAt at r = unitsFrom (at + 4) (r .name)
 
 -- a rule's Enabled: behind the signature and the name
 abbrev pub enabledAt : ℕ → Rule → ℕ

@@ -10,14 +10,14 @@ use Rattle.format.specs.declared.Fault.the-variants as Fault
 use Rattle.format.specs.Format.{Format, pick}
 use Rattle.format.specs.Combinators.{via, seq, _then_, number, count, fixed, bytes, flag, each, counted, sized}
 use Rattle.format.specs.Laws.Combinators.{then-fit, each-long}
-use Rattle.text.specs.Text.{string}
+use Rattle.text.specs.Text.{string, Text}
 use Rattle.kind.specs.declared.Product.{Product}
 use Rattle.element.specs.Element.{Element, element}
 
 -- what a rule says; Data Size, the number of elements, heads and 8001s are not in it, since they follow from it
 pub record Rule : Type 0 where
   pub signature : ℕ
-  pub name : List ℕ
+  pub name : Text
   pub on : Bool
   pub unknown2 : ℕ
   pub unknown3 : ℕ
@@ -62,7 +62,7 @@ fromUnknown4 p i = seq (number 4) (seq (number 4) (sized Fault.Size (body p i)))
 unfoldable pub fromUnknown2 : Product → ℕ → Format (ℕ × (ℕ × (ℕ × (ℕ × List Element))))
 fromUnknown2 p i = seq (number 4) (seq (number 4) (fromUnknown4 p i))
 
-unfoldable pub fields : Product → ℕ → Format (ℕ × (List ℕ × (Bool × (ℕ × (ℕ × (ℕ × (ℕ × List Element)))))))
+unfoldable pub fields : Product → ℕ → Format (ℕ × (Text × (Bool × (ℕ × (ℕ × (ℕ × (ℕ × List Element)))))))
 fields p i = seq (number 4) (seq string (seq flag (fromUnknown2 p i)))
 
 unfoldable pub rule : Product → ℕ → Format Rule

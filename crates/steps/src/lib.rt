@@ -4,14 +4,14 @@ use format::Read;
 ghost use mathlib.Core.Path.{_≡_};
 ghost use Rattle.steps.specs.Laws.Steps.{nameRead, Follows, Reached};
 
-// The name of the rule that starts at a place; its value is the number of its units.
+// The name of the rule that starts at a place.
 pub fn name_end(s: &[u8], at: usize) -> Read
     ensures { λ r. ⌜ r ≡ nameRead (now (s .entry)) at ⌝ }
 {
     if wire::left(s, at) < 4 {
         return Read::No(at, Fault::Cut);
     }
-    text::string_at(s, at + 4)
+    text::string_end(s, at + 4)
 }
 
 // Where the rule that starts at a place of a sound deck ends.

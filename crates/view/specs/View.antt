@@ -1,22 +1,23 @@
 -- Views: document 01, "Tables and views".
-use Prim.Native.Nat.{ℕ, _+_, _/_}
+use Prim.Native.Nat.{ℕ, _+_}
 use mathlib.Core.Path.{_≡_}
 use mathlib.Core.List.{List, [], _∷_}
 use lib.ListN.{take, drop}
 use Rattle.format.specs.declared.Outcome.{Outcome}
 use Rattle.format.specs.declared.Outcome.the-variants as Outcome
 use Rattle.format.specs.Fault.{Said}
-use Rattle.text.specs.Text.{formOf}
+use Rattle.text.specs.declared.Form.{Form}
+use Rattle.text.specs.declared.Form.the-variants.{Short, Long}
 use Rattle.view.specs.declared.View.{View}
 use Rattle.view.specs.declared.View.the-variants.{At, No}
 
 -- "a refused view is the empty part at the start"
 abbrev pub shown : View → List ℕ → List ℕ
-shown (At a n) s = take n (drop a s)
+shown (At a n form) s = take n (drop a s)
 shown (No c q) s = []
 
 abbrev pub shownFrom : View → ℕ
-shownFrom (At a n) = a
+shownFrom (At a n form) = a
 shownFrom (No c q) = 0
 
 -- "parts of the caller's bytes": of the bytes xs, which lie at a place of memory, those that a view shows, and where they lie
@@ -25,10 +26,15 @@ PartOf v xs at ys from = (ys ≡ shown v xs) × (from ≡ (at .0, shownFrom v + 
 
 -- "for a view its first byte"
 abbrev pub viewSays : View → Outcome
-viewSays (At a n) = Outcome.Done a
+viewSays (At a n form) = Outcome.Done a
 viewSays (No c q) = Outcome.No c q
 
--- a view by its numbers: its first byte, how many bytes it is, and the form of the String that has these units
+-- the form of a String as a number: "0 short, 1 long"
+abbrev pub formNumber : Form → ℕ
+formNumber Short = 0
+formNumber Long = 1
+
+-- a view by its numbers: its first byte, how many bytes it is, and the form of the String
 abbrev pub partSays : View → Said
-partSays (At a n) = (Outcome.Done 0, a ∷ n ∷ formOf (n / 2) ∷ [])
+partSays (At a n form) = (Outcome.Done 0, a ∷ n ∷ formNumber form ∷ [])
 partSays (No c q) = (Outcome.No c q, [])

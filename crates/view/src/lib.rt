@@ -1,7 +1,8 @@
-// Views: a part of a slice, by its first byte and its length.
+// Views: a part of a slice, by its first byte and its length, and the form of the String whose units it is.
 use format::Fault;
 use format::Outcome;
-use format::Read;
+use text::Form;
+use text::StringRead;
 ghost use mathlib.Core.Path.{_≡_};
 ghost use mathlib.Core.List.{[]};
 ghost use lib.ListN.{length};
@@ -9,9 +10,9 @@ ghost use denote.Ref.{ptr};
 ghost use Rattle.view.specs.Laws.View.{unitsOf, within, noView};
 ghost use Rattle.view.specs.View.{PartOf, viewSays};
 
-// What a view answers: its first byte and how many bytes it is; or a fault with its place.
+// What a view answers: its first byte, how many bytes it is and the String's form; or a fault with its place.
 pub enum View {
-    At(usize, usize),
+    At(usize, usize, Form),
     No(Fault, usize),
 }
 
@@ -20,18 +21,18 @@ pub fn no_view(o: Outcome) -> View
     ensures { λ v. ⌜ v ≡ noView o ⌝ }
 {
     match o {
-        Outcome::Done(_) => View::At(0, 0),
+        Outcome::Done(_) => View::At(0, 0, Form::Short),
         Outcome::No(c, p) => View::No(c, p),
         Outcome::Given(c, p) => View::No(c, p),
     }
 }
 
 // The units of a String that was read: they end where it ends.
-pub fn units_of(s: &[u8], t: Read) -> View
+pub fn units_of(s: &[u8], t: StringRead) -> View
     ensures { λ v. ⌜ v ≡ unitsOf (length (now (s .entry))) t ⌝ }
 {
-    let Read::Got(e, n) = t else {
-        return no_view(format::end_says(t));
+    let StringRead::Got(e, form, n) = t else {
+        return no_view(format::end_says(text::end_of(t)));
     };
     let units = n as usize;
     if s.len() < e {
@@ -40,7 +41,7 @@ pub fn units_of(s: &[u8], t: Read) -> View
     if e / 2 < units {
         return View::No(Fault::Cut, 0);
     }
-    View::At(e - 2 * units, 2 * units)
+    View::At(e - 2 * units, 2 * units, form)
 }
 
 // The empty part at the start.
@@ -54,7 +55,7 @@ fn empty(s: &[u8]) -> &[u8]
 pub fn part(s: &[u8], v: View) -> &[u8]
     ensures { λ r. ⌜ PartOf (within (length (now (s .entry))) v) (now (s .entry)) (ptr (s .entry)) (now r) (ptr r) ⌝ }
 {
-    let View::At(a, n) = v else {
+    let View::At(a, n, _) = v else {
         return empty(s);
     };
     if s.len() < a {
@@ -72,7 +73,7 @@ pub fn place_of(v: View) -> Outcome
     ensures { λ r. ⌜ r ≡ viewSays v ⌝ }
 {
     match v {
-        View::At(a, _) => Outcome::Done(a),
+        View::At(a, _, _) => Outcome::Done(a),
         View::No(c, p) => Outcome::No(c, p),
     }
 }

@@ -112,7 +112,7 @@ fn read_rule(rest: &[u8], product: Product, i: u64) -> Read
     let Read::Got(p, _) = a else {
         return a;
     };
-    let name = text::string_at(rest, p);
+    let name = text::string_end(rest, p);
     let Read::Got(q, _) = name else {
         return name;
     };

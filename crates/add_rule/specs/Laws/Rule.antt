@@ -32,7 +32,7 @@ use Rattle.buffer.specs.Laws.Laid.{put-both}
 use Rattle.buffer.specs.Laws.Holds.{Holds, holds-put, holds-behind}
 use Rattle.locate.specs.Laws.Located.{lastOf}
 use Rattle.steps.specs.Laws.Steps.{Sound}
-use Rattle.given.specs.Given.{isText, units, given}
+use Rattle.given.specs.Given.{isText, textOf, given}
 use Rattle.given.specs.Laws.Element.{first-written}
 use Rattle.plan.specs.Edit.{become, addRule, edited, newRule}
 use Rattle.plan.specs.Laws.Found.{MakesAs, Does}
@@ -70,7 +70,7 @@ back-size i id s =
     omega (arith, length-append (spelt 4 (6 + length (headBytes i) + length s)) (spelt 2 1 ++ (headBytes i ++ (spelt 4 id ++ s))), length-append (spelt 2 1) (headBytes i ++ (spelt 4 id ++ s)), length-append (headBytes i) (spelt 4 id ++ s), length-append (spelt 4 id) s, length-spelt 4 (6 + length (headBytes i) + length s), length-spelt 2 1, length-spelt 4 id)
 
 -- they are the parts of the rule as it is written
-front-is : (name : List ℕ) (f : Fields) (x : Element) → textBytes name ≡ string .write (units name) → front (newRule (units name) f x) ≡ frontBytes name f
+front-is : (name : List ℕ) (f : Fields) (x : Element) → textBytes name ≡ string .write (textOf name) → front (newRule (textOf name) f x) ≡ frontBytes name f
 unfolding front kept frontBytes keptBytes
 front-is name f x e = rw (← e)
 
@@ -150,18 +150,18 @@ rule-size m name f id s = omega (arith, length-append (frontBytes name f) (backB
 -- whatever m rules the sound deck in the first n bytes has: the rule with this name, these fields and the element x, whose bytes these are, is added
 unfoldable pub Extends : ℕ → ℕ → List ℕ → Fields → ℕ → List ℕ → List ℕ → Outcome → List ℕ → Type 0
 Extends n m name f id s d r d′ =
-    (p : Product) (rs : List Rule) (x : Element) → Sound p (take n d) rs → n ≤ length d → m ≡ length rs → placed Studio 0 .write x ≡ spelt 4 id ++ s → textBytes name ≡ string .write (units name) → Does n (become (rs ++ (newRule (units name) f x ∷ []))) d r d′
+    (p : Product) (rs : List Rule) (x : Element) → Sound p (take n d) rs → n ≤ length d → m ≡ length rs → placed Studio 0 .write x ≡ spelt 4 id ++ s → textBytes name ≡ string .write (textOf name) → Does n (become (rs ++ (newRule (textOf name) f x ∷ []))) d r d′
 
 module _ (n m : ℕ) (name : List ℕ) (f : Fields) (id : ℕ) (s d : List ℕ) where
   added-many : (rs : List Rule) (x : Rule) → length (rs ++ (x ∷ [])) ≡ length rs + 1
   added-many rs x = length-append rs (x ∷ [])
 
-  added-written : (rs : List Rule) (x : Element) → m ≡ length rs → placed Studio 0 .write x ≡ spelt 4 id ++ s → textBytes name ≡ string .write (units name)
-      → written (rs ++ (newRule (units name) f x ∷ [])) ≡ opening ++ (spelt 2 (m + 1) ++ (rules 0 rs ++ newBytes m name f id s))
+  added-written : (rs : List Rule) (x : Element) → m ≡ length rs → placed Studio 0 .write x ≡ spelt 4 id ++ s → textBytes name ≡ string .write (textOf name)
+      → written (rs ++ (newRule (textOf name) f x ∷ [])) ≡ opening ++ (spelt 2 (m + 1) ++ (rules 0 rs ++ newBytes m name f id s))
   unfolding before newBytes
   added-written rs x em b t =
-      written-is rs (newRule (units name) f x ∷ [])
-      ∙ rw (added-many rs (newRule (units name) f x), ← em, rules-cons, rules-none, append-nil, front-is name f x t, back-is m id s x b) (simp append-assoc)
+      written-is rs (newRule (textOf name) f x ∷ [])
+      ∙ rw (added-many rs (newRule (textOf name) f x), ← em, rules-cons, rules-none, append-nil, front-is name f x t, back-is m id s x b) (simp append-assoc)
 
   deck-parts : {p : Product} (rs : List Rule) → Sound p (take n d) rs → take n d ≡ opening ++ (spelt 2 (length rs) ++ rules 0 rs)
   unfolding before
@@ -198,8 +198,8 @@ module _ (n m : ℕ) (name : List ℕ) (f : Fields) (id : ℕ) (s d : List ℕ) 
     extend-out it z hz j h p rs x i w em b t =
         let lt = text-size name it in
         let al = added-long rs i w in
-        let e : n + 24 + size + 10 + head + length s ≡ length (written (rs ++ (newRule (units name) f x ∷ []))) = rw (added-written rs x em b t) (omega arith) in
-        made-out n d refl j h (ap (λ (k : ℕ). k + 1) em ∙ sym (added-many rs (newRule (units name) f x))) e
+        let e : n + 24 + size + 10 + head + length s ≡ length (written (rs ++ (newRule (textOf name) f x ∷ []))) = rw (added-written rs x em b t) (omega arith) in
+        made-out n d refl j h (ap (λ (k : ℕ). k + 1) em ∙ sym (added-many rs (newRule (textOf name) f x))) e
 
     pub extend-done : {y₁ y₂ y₃ : List ℕ} {v : ℕ} → isText name ≡ true → size ≡ textSize name → head ≡ length (headBytes m) → o ≡ roomFor (m + 1) (n + 24 + size + 10 + head + length s) (length d) → o ≡ Outcome.Done v
         → y₁ ≡ putIn d n (frontBytes name f) → y₂ ≡ putIn y₁ (n + 24 + size) (backBytes m id s) → y₃ ≡ putIn y₂ 5 (spelt 2 (m + 1)) → Extends n m name f id s d o y₃
@@ -209,7 +209,7 @@ module _ (n m : ℕ) (name : List ℕ) (f : Fields) (id : ℕ) (s d : List ℕ) 
         let al = added-long rs i w in
         let lr = rule-size m name f id s in
         let l = roomy (m + 1) (n + 24 + size + 10 + head + length s) (length d) j h .inside in
-        made-in n d j h (added-holds rs i w (omega arith) (omega arith) e₁ e₂ e₃) refl (sym (added-written rs x em b t)) (omega arith) (omega arith) (ap (λ (k : ℕ). k + 1) em ∙ sym (added-many rs (newRule (units name) f x)))
+        made-in n d j h (added-holds rs i w (omega arith) (omega arith) e₁ e₂ e₃) refl (sym (added-written rs x em b t)) (omega arith) (omega arith) (ap (λ (k : ℕ). k + 1) em ∙ sym (added-many rs (newRule (textOf name) f x)))
 
 -- ---- what is judged before
 

@@ -93,11 +93,11 @@ module _ {A : Type 0} (a : Format A) (n : ℕ) (f : Bounded a n) where
       go w (got x j) h = omega (arith, mul-suc n k, on-end j (λ xs. x ∷ xs) (eachRead (λ l. a) (i + 1) k (drop j s)), w j)
       go w (refused c q) h = omega (arith, mul-suc n k)
 
-  few : (k most : ℕ) → k ≤ most → Bounded (each (λ i. a) 0 k) (n * most)
+  pub bounded-row : (k most : ℕ) → k ≤ most → Bounded (each (λ i. a) 0 k) (n * most)
   unfolding Bounded each
-  few k most w s bs = let m = mul-le-mul-left n w in omega (arith, each-end 0 k s bs, m)
+  bounded-row k most w s bs = let m = mul-le-mul-left n w in omega (arith, each-end 0 k s bs, m)
 
 -- at most most of them, behind their number
 pub bounded-listed : {A : Type 0} (l : Format ℕ) (a : Format A) (m n most : ℕ) → Bounded l m → ((k : ℕ) → l .Fit k → k ≤ most) → Bounded a n → Bounded (listed l a) (m + n * most)
 unfolding listed counted
-bounded-listed l a m n most f g h = bounded-via _ _ _ _ (m + n * most) (bounded-pair l (each (λ i. a) 0) m (n * most) f (λ k w. few a n h k most (g k w)))
+bounded-listed l a m n most f g h = bounded-via _ _ _ _ (m + n * most) (bounded-pair l (each (λ i. a) 0) m (n * most) f (λ k w. bounded-row a n h k most (g k w)))

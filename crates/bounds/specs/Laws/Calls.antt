@@ -46,7 +46,7 @@ use Rattle.bounds.specs.Laws.Places.{BytesOf, given-bytes}
 use Rattle.bounds.specs.Listed.{Numbers, allowed, Lists, numbers, exactly}
 use Rattle.bounds.specs.Laws.Listed.{allowed-first, allowed-later}
 use Rattle.bounds.specs.Laws.Faulty.{Faulty, deck-faulty, edition-listed, faulty-listed, ElementListed, element-listed}
-use Rattle.text.specs.Text.{word}
+use Rattle.text.specs.Text.{word, Text}
 
 pub check-listed : (edition : ℕ) (s : List ℕ) → Lists checkNumbers (answered (readDeck edition s))
 unfolding readDeck readBy
@@ -118,9 +118,9 @@ pub word-listed : (edition k e w : ℕ) (s : List ℕ) → Lists (viewNumbers 2)
 unfolding wordView
 word-listed edition k e w s = asked-listed View.No (ruleWord k e w) 2 (Viewed 2) (λ c q f. f) (λ p at r. element (drop e (r .elements)) _) edition k s
   where
-    worded : (ws : List (List ℕ)) (at : ℕ) → Viewed 2 (wordAt at ws)
+    worded : (ws : List Text) (at : ℕ) → Viewed 2 (wordAt at ws)
     worded [] at = absent-listed 2 2 (omega arith) (omega arith)
-    worded (us ∷ ws) at = tt
+    worded (t ∷ ws) at = tt
 
     element : (xs : List Element) (at : ℕ) → Viewed 2 (elementWord e w at xs)
     element [] at = absent-listed 2 1 (omega arith) (omega arith)

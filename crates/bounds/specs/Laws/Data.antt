@@ -13,7 +13,8 @@ use Rattle.format.specs.Format.{Answer, got, refused, endOf, whole, pick, Forma
 use Rattle.format.specs.Laws.Format.{end-mapped}
 use Rattle.format.specs.Laws.ReadWrite.{within-is}
 use Rattle.format.specs.Combinators.{pair, judged, via, seq, number, count, fixed, flag}
-use Rattle.text.specs.Text.{extended, stringLength, string, word}
+use Rattle.text.specs.Length.{longLength, inLong, lengthBehind}
+use Rattle.text.specs.Text.{stringLength, stringOf, unit, string, wordOf, word}
 use Rattle.text.specs.Laws.Text.{length-most}
 use Rattle.date.specs.Date.{date}
 use Rattle.kind.specs.declared.Product.{Product}
@@ -25,7 +26,7 @@ use Rattle.kind.specs.Kinds.{kinds, has, rowIn, inProduct, offered, rowOf, kind
 use Rattle.kind.specs.Laws.Kinds.{lacking, foreign}
 use Rattle.element.specs.Data.{oneZero, markerData, simpleData, wordCount, wordData, sizeData, limit, dateData, dataOf}
 use Rattle.given.specs.Given.{given, givenBy, withData}
-use Rattle.bounds.specs.Laws.Bounded.{Bounded, bounded-number, bounded-nothing, bounded-pick, bounded-judged, bounded-via, bounded-start, bounded-pair, bounded-then, bounded-fixed, bounded-flag, bounded-count, bounded-listed}
+use Rattle.bounds.specs.Laws.Bounded.{Bounded, bounded-number, bounded-nothing, bounded-pick, bounded-judged, bounded-via, bounded-start, bounded-pair, bounded-then, bounded-fixed, bounded-flag, bounded-count, bounded-row, bounded-listed}
 use Rattle.bounds.specs.Calls.{most}
 
 -- a bound is also any greater one
@@ -34,15 +35,15 @@ unfolding Bounded
 wider a m n h f s b = omega (arith, f s b)
 
 text-length : Bounded stringLength 3
-unfolding stringLength extended
-text-length = bounded-via _ _ _ _ 3 (bounded-pair (number 1) extended 1 2 (bounded-number 1) (λ n f. bounded-pick (eqb n 255) (fixed 2 255 Fault.Form) _ 2 (bounded-fixed 2 255 Fault.Form) (wider _ 0 2 (omega arith) bounded-nothing)))
+unfolding stringLength lengthBehind longLength
+text-length = bounded-via _ _ _ _ 3 (bounded-pair (number 1) lengthBehind 1 2 (bounded-number 1) (λ b f. bounded-pick (eqb b 255) inLong _ 2 (bounded-via _ _ _ _ 2 (bounded-judged _ Fault.Form (number 2) 2 (bounded-number 2))) (wider _ 0 2 (omega arith) (bounded-via _ _ _ _ 0 bounded-nothing))))
 
 text : Bounded string 513
-unfolding string
-text = bounded-start _ 513 (bounded-listed stringLength (number 2) 3 2 255 text-length length-most (bounded-number 2))
+unfolding stringOf
+text = bounded-start _ 513 (bounded-via _ _ _ _ 513 (bounded-pair stringLength _ 3 510 text-length (λ l f. bounded-row unit 2 (bounded-number 2) (l .1) 255 (length-most l f))))
 
 wordy : Bounded word 517
-unfolding word
+unfolding wordOf
 wordy = bounded-then (fixed 4 0 Fault.Field) string 4 513 (bounded-fixed 4 0 Fault.Field) text
 
 count-most : (n : ℕ) → wordCount .Fit n → n ≤ 64

@@ -10,7 +10,8 @@ use Rattle.format.specs.declared.Fault.the-variants as Fault
 use Rattle.format.specs.Format.{Answer, got, refused, shift, mapped, andThen, whole, pick, Format}
 use Rattle.format.specs.ReadWrite.{pairRead, judge, judgeOf, home, numberRead, value, eachRead, weighed}
 use Rattle.format.specs.Combinators.{pair, judged, via, atStart, nothing, seq, _then_, number, fixed, bytes, count, flag, each, counted, listed, measured, sized}
-use Rattle.text.specs.Text.{extended, stringLength, string, word}
+use Rattle.text.specs.Length.{longLength, inLong, lengthBehind}
+use Rattle.text.specs.Text.{stringLength, stringOf, unit, string, wordOf, word}
 use Rattle.date.specs.Date.{date}
 use Rattle.kind.specs.declared.Product.{Product}
 use Rattle.kind.specs.declared.Role.the-variants.{Condition}
@@ -47,7 +48,7 @@ module _ (P : Fault → Type 0) where
   for-shift k (got x n) h = tt
   for-shift k (refused c o) h = h
 
-  for-then : {A B : Type 0} (q : Answer A) (k : A → ℕ → Answer B) → For P q → ((x : A) (n : ℕ) → For P (k x n)) → For P (andThen q k)
+  pub for-then : {A B : Type 0} (q : Answer A) (k : A → ℕ → Answer B) → For P q → ((x : A) (n : ℕ) → For P (k x n)) → For P (andThen q k)
   unfolding For andThen
   for-then (got x n) k h f = for-shift n (k x n) (f x n)
   for-then (refused c o) k h f = h
@@ -150,12 +151,16 @@ module _ (P : Fault → Type 0) where
     unfolding flag
     gives-flag = gives-via _ _ _ _ (gives-judged _ Fault.Field (number 4) wrong (gives-number 4))
 
+    gives-length : Gives P stringLength
+    unfolding stringLength lengthBehind longLength
+    gives-length = gives-via _ _ _ _ (gives-pair (number 1) _ (gives-number 1) (λ b. gives-pick (eqb b 255) inLong _ (gives-via _ _ _ _ (gives-judged _ Fault.Form (number 2) form (gives-number 2))) (gives-via _ _ _ _ gives-nothing)))
+
     gives-string : Gives P string
-    unfolding string stringLength extended
-    gives-string = gives-start _ (gives-listed _ (number 2) (gives-via _ _ _ _ (gives-pair (number 1) _ (gives-number 1) (λ n. gives-pick (eqb n 255) _ nothing (gives-fixed 2 255 Fault.Form form) gives-nothing))) (gives-number 2))
+    unfolding stringOf
+    gives-string = gives-start _ (gives-via _ _ _ _ (gives-pair stringLength _ gives-length (λ l. gives-each (λ i. unit) (λ i. gives-number 2) 0 (l .1))))
 
     gives-word : Gives P word
-    unfolding word
+    unfolding wordOf
     gives-word = gives-then _ string (gives-fixed 4 0 Fault.Field wrong) gives-string
 
     gives-one-zero : Gives P oneZero

@@ -14,6 +14,7 @@ use Rattle.format.specs.Fault.{placeOf}
 use Rattle.format.specs.Row.{total}
 use Rattle.format.specs.Format.{Answer, got, refused, endOf, pick, Bytes}
 use Rattle.format.specs.Laws.Format.{bytes-take}
+use Rattle.text.specs.Text.{Text}
 use Rattle.kind.specs.declared.Product.{Product}
 use Rattle.kind.specs.declared.Edition.{Edition}
 use Rattle.kind.specs.declared.Edition.the-variants as Edition
@@ -106,7 +107,7 @@ plan-small edition n d e b h = go (planned edition n d e) (only-planned Small Sm
 
 -- what is told of a rule that is there
 abbrev Few : View → Type 0
-Few (At a n) = Unit {0}
+Few (At a n form) = Unit {0}
 Few (No c q) = q ≤ 2
 
 view-small : (f : Product → ℕ → Rule → View) (edition k : ℕ) (s : List ℕ) → ((p : Product) (at : ℕ) (r : Rule) → Few (f p at r)) → Bytes s → Inside (asked No f edition k s) 60000 → placeOf (viewSays (asked No f edition k s)) ≤ 60000
@@ -114,7 +115,7 @@ unfolding asked
 view-small f edition k s g b = by (editionOf edition) refl
   where
     at-rule : (v : View) → Few v → Inside v 60000 → placeOf (viewSays v) ≤ 60000
-    at-rule (At a n) w i = omega arith
+    at-rule (At a n form) w i = omega arith
     at-rule (No c q) w i = omega arith
 
     first : (p : Product) (at : ℕ) (rs : List Rule) → Inside (askedFirst No (f p) at rs) 60000 → placeOf (viewSays (askedFirst No (f p) at rs)) ≤ 60000
@@ -135,7 +136,7 @@ unfolding asked
 view-short f edition k s b = by (editionOf edition)
   where
     at-rule : (v : View) → length s ≤ 60000 → Inside v (length s) → Inside v 60000
-    at-rule (At a n) l i = omega arith
+    at-rule (At a n form) l i = omega arith
     at-rule (No c q) l i = tt
 
     read : (p : Product) (a : Answer (List Rule)) → readAs p s ≡ a → Inside (askedOf No f k p a) (length s) → Inside (askedOf No f k p a) 60000
@@ -162,9 +163,9 @@ pub word-small : (edition k e w : ℕ) (s : List ℕ) → Bytes s → Inside (wo
 unfolding wordView
 word-small edition k e w s b i = view-small (ruleWord k e w) edition k s (λ p at r. element p (drop e (r .elements)) _) b (view-short (ruleWord k e w) edition k s b i)
   where
-    worded : (ws : List (List ℕ)) (at : ℕ) → Few (wordAt at ws)
+    worded : (ws : List Text) (at : ℕ) → Few (wordAt at ws)
     worded [] at = omega arith
-    worded (us ∷ ws) at = tt
+    worded (t ∷ ws) at = tt
 
     element : (p : Product) (xs : List Element) (at : ℕ) → Few (elementWord e w at xs)
     element p [] at = omega arith

@@ -8,6 +8,7 @@ use lib.ListN.{length, take}
 use Rattle.format.specs.declared.Fault.{Fault}
 use Rattle.format.specs.declared.Fault.the-variants as Fault
 use Rattle.format.specs.Format.{Answer, got, refused, pick}
+use Rattle.text.specs.Text.{Text}
 use Rattle.kind.specs.declared.Product.{Product}
 use Rattle.kind.specs.declared.Edition.{Edition}
 use Rattle.kind.specs.declared.Edition.the-variants as Edition
@@ -87,7 +88,7 @@ module _ (N G : Fault → ℕ → Type 0) where
   only-last [] f h g = h
   only-last (r ∷ later) f h g = g r
 
-  only-list : (ys : List Element) (f : ℕ → List (List ℕ) → Plan) → N Fault.Last 0 → ((id : ℕ) (ws : List (List ℕ)) → Only Any N G (f id ws)) → Only Any N G (atList ys f)
+  only-list : (ys : List Element) (f : ℕ → List Text → Plan) → N Fault.Last 0 → ((id : ℕ) (ws : List Text) → Only Any N G (f id ws)) → Only Any N G (atList ys f)
   unfolding atList
   only-list [] f h g = h
   only-list ((id, plain) ∷ later) f h g = h

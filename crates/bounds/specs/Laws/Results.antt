@@ -151,7 +151,7 @@ pub put-small : (edition id : ℕ) (v : Value) (room : ℕ) → placeOf (putSays
 put-small edition id v room = within-small putNumbers 40 (putSays (putting edition id v room)) (put-listed edition id v room) (omega arith)
 
 part-small : (rows : List Numbers) (v : View) → Lists rows (viewSays v) → placeOf (partSays v .0) ≤ 60000
-part-small rows (View.At a n) f = omega arith
+part-small rows (View.At a n form) f = omega arith
 part-small rows (View.No c q) f = within-small rows 0 (Outcome.No c q) f (omega arith)
 
 pub name-part-small : (edition k : ℕ) (s : List ℕ) → placeOf (partSays (nameView edition k s) .0) ≤ 60000

@@ -10,13 +10,15 @@ use Rattle.format.specs.declared.Read.{Read}
 use Rattle.format.specs.declared.Read.the-variants as Read
 use Rattle.format.specs.Laws.ReadWrite.{length-spelt}
 use Rattle.format.specs.Combinators.{number}
-use Rattle.format.specs.Laws.Seen.{seen, itself, got-at}
+use Rattle.format.specs.Laws.Seen.{seen, itself}
 use Rattle.format.specs.Laws.Written.{Row}
-use Rattle.format.specs.Laws.Back.{Where, stands-seen, stands-room, back-got, back-no}
+use Rattle.format.specs.Laws.Back.{Where, stands-room, back-got, back-no}
 use Rattle.format.specs.Row.{startIn}
 use Rattle.format.specs.Laws.Skip.{Skipped, skip-is, skip-never, nth}
-use Rattle.text.specs.Text.{string, word}
-use Rattle.text.specs.Laws.Text.{word-length}
+use Rattle.text.specs.declared.StringRead.{StringRead}
+use Rattle.text.specs.declared.StringRead.the-variants as StringRead
+use Rattle.text.specs.Text.{Text, lengthOf, unit, string, word}
+use Rattle.text.specs.Laws.Text.{textSeen, text-back, word-length}
 use Rattle.kind.specs.declared.Kind.{Kind}
 use Rattle.element.specs.Data.{wordsOf, wordData, dataOf}
 use Rattle.element.specs.Laws.Data.{Other, words-none, list-parts}
@@ -27,22 +29,22 @@ use Rattle.data_word.specs.Word.{wordAt, dataWord}
 
 -- whatever words stand from a place on, v is the view of word w
 unfoldable pub Words : List ℕ → ℕ → ℕ → View → Type 0
-Words s at w v = (ws : List (List ℕ)) (t : List ℕ) → Row (λ i. word) s 0 at ws t → w < length ws → v ≡ wordAt (startIn (λ i. word) at ws w) (drop w ws)
+Words s at w v = (ws : List Text) (t : List ℕ) → Row (λ i. word) s 0 at ws t → w < length ws → v ≡ wordAt (startIn (λ i. word) at ws w) (drop w ws)
 
 -- z is what was told of its start
 pub word-never : (s : List ℕ) (at w : ℕ) (v : View) {z : Read} {c : Fault} {o : ℕ} → Skipped (λ i. word) s at w w z → z ≡ Read.No o c → Words s at w v
 unfolding Words
 word-never s at w v k j ws t row l = skip-never (λ i. word) s at w w k ws t row (omega arith) j
 
-pub word-is : (s : List ℕ) (at w : ℕ) (v : View) {z r : Read} {u q : ℕ} → Skipped (λ i. word) s at w w z → z ≡ Read.Got q u → r ≡ seen length word s q → v ≡ unitsOf (length s) r → Words s at w v
+pub word-is : (s : List ℕ) (at w : ℕ) (v : View) {z : Read} {r : StringRead} {u q : ℕ} → Skipped (λ i. word) s at w w z → z ≡ Read.Got q u → r ≡ textSeen lengthOf word s q → v ≡ unitsOf (length s) r → Words s at w v
 unfolding Words
 word-is s at w v {r = r} {q = q} k j e h ws t row l =
     let n = nth (λ i. word) s at w q ws t (skip-is (λ i. word) s at w w k ws t row (omega arith) j) row l in
-    let us = n .x in
-    let m = word-length us in
-    let o : q + length (word .write us) ≡ q + 4 + length (string .write us) = omega arith in
-    units-of (length s) (q + 4) us h (e ∙ stands-seen length word s q (n .stands) ∙ got-at o) (omega (arith, stands-room word s q (n .stands)))
-    ∙ ap (λ (a : ℕ). wordAt a (us ∷ n .ys)) (n .starts) ∙ ap (wordAt (startIn (λ i. word) at ws w)) (sym (n .whole))
+    let x = n .x in
+    let m = word-length unit x in
+    let o : q + length (word .write x) ≡ q + 4 + length (string .write x) = omega arith in
+    units-of (length s) (q + 4) x h (text-back lengthOf word s q (n .stands) e ∙ ap (λ (m : ℕ). StringRead.Got m (x .form) (length (x .units))) o) (omega (arith, stands-room word s q (n .stands)))
+    ∙ ap (λ (a : ℕ). wordAt a (x ∷ n .ys)) (n .starts) ∙ ap (wordAt (startIn (λ i. word) at ws w)) (sym (n .whole))
 
 module _ (s : List ℕ) (at w : ℕ) {c : Read} (e : c ≡ seen itself (number 4) s at) where
   pub list-cut : (v : View) {f : Fault} {q : ℕ} → c ≡ Read.No q f → Where wordData s at (dataWord w at) v

@@ -6,14 +6,14 @@ use mathlib.Core.List.{List, [], _∷_, _++_, append-assoc}
 use lib.ListN.{length, take, drop, length-append, length-drop}
 use lib.Seq.{take-append-seam}
 use Rattle.format.specs.Format.{Format, Bytes, got}
-use Rattle.format.specs.ReadWrite.{pairWrite, spelt, eachWrite, AllFit}
+use Rattle.format.specs.ReadWrite.{spelt, eachWrite, AllFit}
 use Rattle.format.specs.Laws.ReadWrite.{length-spelt}
-use Rattle.format.specs.Combinators.{pair, via, judged, seq, _then_, atStart, number, fixed, each, counted, listed}
+use Rattle.format.specs.Combinators.{number}
 use Rattle.format.specs.Laws.Written.{behind, Stands, Held, Row}
 use Rattle.format.specs.Row.{startIn}
 use Rattle.format.specs.Laws.Skip.{nth}
-use Rattle.text.specs.Text.{stringLength, string, word}
-use Rattle.text.specs.Laws.Text.{string-length}
+use Rattle.text.specs.Text.{Text, lengthOf, stringLength, unit, string, word, unitsFrom}
+use Rattle.text.specs.Laws.Text.{string-written, string-fits, string-long, word-written, word-fits}
 use Rattle.kind.specs.declared.Product.{Product}
 use Rattle.kind.specs.declared.Role.the-variants.{Condition}
 use Rattle.kind.specs.declared.Kind.{Kind}
@@ -60,23 +60,22 @@ units-back i (u ∷ us) f =
     let z : u % 256 + 256 * (u / 256 % 256) ≡ u = omega (arith, f .0) in
     rw (z, units-back (i + 1) us (f .1))
 
-pub string-units : (s : List ℕ) (at : ℕ) {us u : List ℕ} → Stands string s at us u → UnitsOf us (take (2 * length us) (drop (at + length (stringLength .write (length us))) s))
-unfolding string atStart listed counted via pair pairWrite each
-string-units s at {us} {u} b =
-    let n = stringLength .write (length us) in
-    let bs = eachWrite (λ i. number 2) 0 us in
-    let l : length bs ≡ 2 * length us = omega (arith, string-length us, length-append n bs) in
-    let e : take (2 * length us) (drop (at + length n) s) ≡ bs = rw (← l, behind s at n (bs ++ u) (b .is ∙ append-assoc n bs u)) (take-append-seam bs u) in
-    (e, ap units e ∙ units-back 0 us (b .fit .0 .1 .1))
+pub string-units : (s : List ℕ) (at : ℕ) {t : Text} {u : List ℕ} → Stands string s at t u → UnitsOf (t .units) (take (2 * length (t .units)) (drop (unitsFrom at t) s))
+string-units s at {t} {u} b =
+    let n = stringLength .write (lengthOf t) in
+    let bs = eachWrite (λ i. number 2) 0 (t .units) in
+    let w = string-written unit t in
+    let l : length bs ≡ 2 * length (t .units) = omega (arith, string-long t, ap length w, length-append n bs) in
+    let e : take (2 * length (t .units)) (drop (at + length n) s) ≡ bs = rw (← l, behind s at n (bs ++ u) (b .is ∙ rw (w, append-assoc))) (take-append-seam bs u) in
+    (e, ap units e ∙ units-back 0 (t .units) (string-fits unit t (b .fit) .1))
 
-pub word-units : (s : List ℕ) (at : ℕ) {us u : List ℕ} → Stands word s at us u → UnitsOf us (take (2 * length us) (drop (at + 4 + length (stringLength .write (length us))) s))
-unfolding word fixed _then_ seq via judged pair pairWrite number
-word-units s at {us} {u} b =
-    let e = behind s at (spelt 4 0) (string .write us ++ u) (b .is ∙ append-assoc (spelt 4 0) (string .write us) u) in
-    string-units s (at + 4) (record { fit = b .fit .0 .1; is = rw length-spelt at e })
+pub word-units : (s : List ℕ) (at : ℕ) {t : Text} {u : List ℕ} → Stands word s at t u → UnitsOf (t .units) (take (2 * length (t .units)) (drop (unitsFrom (at + 4) t) s))
+word-units s at {t} {u} b =
+    let e = behind s at (spelt 4 0) (string .write t ++ u) (b .is ∙ rw (word-written, append-assoc)) in
+    string-units s (at + 4) (record { fit = word-fits unit t (b .fit); is = rw length-spelt at e })
 
 -- the words of data that have a word: only a word list has
-pub words-row : (w : ℕ) (s : List ℕ) (at : ℕ) {x : Data} {u us : List ℕ} {ws : List (List ℕ)} (o : KindRow) → drop w (wordsOf x) ≡ us ∷ ws → Stands (dataBy o) s at x u → Row (λ i. word) s 0 (at + 4) (wordsOf x) u
+pub words-row : (w : ℕ) (s : List ℕ) (at : ℕ) {x : Data} {u : List ℕ} {t : Text} {ws : List Text} (o : KindRow) → drop w (wordsOf x) ≡ t ∷ ws → Stands (dataBy o) s at x u → Row (λ i. word) s 0 (at + 4) (wordsOf x) u
 words-row w s at {x} {u} o d = by o
   where
     other : (k : Kind) → Other k → Stands (dataOf k) s at x u → Row (λ i. word) s 0 (at + 4) (wordsOf x) u

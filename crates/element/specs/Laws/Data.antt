@@ -7,7 +7,7 @@ use Rattle.format.specs.ReadWrite.{pairWrite, spelt, eachWrite}
 use Rattle.format.specs.Laws.ReadWrite.{length-spelt}
 use Rattle.format.specs.Combinators.{via, judged, pair, number, count, each, counted, listed}
 use Rattle.format.specs.Laws.Written.{behind, Stands, Held, Row}
-use Rattle.text.specs.Text.{word}
+use Rattle.text.specs.Text.{word, Text}
 use Rattle.kind.specs.declared.Kind.{Kind}
 use Rattle.kind.specs.declared.Kind.the-variants as Kind
 use Rattle.element.specs.Data.{Data, ofWords, wordsOf, markerData, simpleData, wordData, sizeData, dateData, dataOf}
@@ -20,7 +20,7 @@ Other Kind.WordList = ⊥
 Other (Kind.Size r) = Unit {0}
 Other (Kind.Dates r) = Unit {0}
 
-pub words-none : {W : Type 0} (absent : W) (f : List (List ℕ) → W) (k : Kind) (x : Data) → dataOf k .Fit x → Other k → ofWords absent f x ≡ absent
+pub words-none : {W : Type 0} (absent : W) (f : List Text → W) (k : Kind) (x : Data) → dataOf k .Fit x → Other k → ofWords absent f x ≡ absent
 unfolding markerData simpleData sizeData dateData via
 words-none absent f Kind.Marker x h o = ap (ofWords absent f) (sym (h .1))
 words-none absent f (Kind.Simple r) x h o = ap (ofWords absent f) (sym (h .1))

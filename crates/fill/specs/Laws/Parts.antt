@@ -15,8 +15,12 @@ use Rattle.format.specs.Row.{total, startIn}
 use Rattle.format.specs.Laws.Written.{Stands, Row}
 use Rattle.format.specs.Laws.Back.{stands-room, back-got, back-no}
 use Rattle.format.specs.Laws.Skip.{start-first, start-end, start-more, Nth, nth}
+use Rattle.text.specs.Laws.Text.{textSeen, text-unlike, text-back, text-told, lengthSize, length-size, string-fits}
 use Rattle.kind.specs.declared.Product.{Product}
-use Rattle.text.specs.Text.{stringLength, string}
+use Rattle.text.specs.declared.Form.{Form}
+use Rattle.text.specs.declared.StringRead.{StringRead}
+use Rattle.text.specs.declared.StringRead.the-variants as StringRead
+use Rattle.text.specs.Text.{string, lengthOf, unit}
 use Rattle.element.specs.Element.{Element}
 use Rattle.rule.specs.Rule.{Rule, rule, body, head, placed, elementsIn}
 use Rattle.rule.specs.Places.{ruleBytes, unitsAt, enabledAt, elementsAt}
@@ -60,19 +64,16 @@ PartFill p s base i k t t₁ e e₁ r =
     → (r ≡ Got (ruleBytes p i x) (elementsIn x)) × ((t₁ ≡ put t (ruleWidth * i) (ruleRow p i base x)) × (e₁ ≡ put e k (ruleElementRows p i base x)))
 
 module _ (p : Product) (s : List ℕ) (base i k : ℕ) (t t₁ e e₁ : List ℕ) where
-  pub rule-lengthless : {r : Read} {f : Fault} {o : ℕ} → r ≡ seen itself stringLength s 4 → r ≡ No o f → PartFill p s base i k t t₁ e e₁ r
-  rule-lengthless g h x u b lt le = back-no itself stringLength s 4 (rule-parts p i s 0 x u b .lengthed .1) g h
+  module _ {c : StringRead} (g : c ≡ textSeen lengthOf string s 4) where
+    pub rule-nameless : {r : Read} {f : Fault} {o : ℕ} → c ≡ StringRead.No o f → PartFill p s base i k t t₁ e e₁ r
+    rule-nameless h x u b lt le = text-unlike (text-back lengthOf string s 4 (rule-parts p i s 0 x u b .named .1) g) h
 
-  module _ {c : Read} (g : c ≡ seen length string s 4) where
-    pub rule-nameless : {f : Fault} {o : ℕ} → c ≡ No o f → PartFill p s base i k t t₁ e e₁ c
-    rule-nameless h x u b lt le = back-no length string s 4 (rule-parts p i s 0 x u b .named .1) g h
-
-    module _ {v m : ℕ} (h : c ≡ Got m v) {r : Read} (f : BodyFill p s (m + 24) base i k e e₁ r) where
+    module _ {form : Form} {v m : ℕ} (h : c ≡ StringRead.Got m form v) {r : Read} (f : BodyFill p s (m + 24) base i k e e₁ r) where
       bodied : (x : Rule) (u : List ℕ) → Stands (rule p i) s 0 x u → k + length (ruleElementRows p i base x) ≤ length e
           → (r ≡ Got (ruleBytes p i x) (elementsIn x)) × (e₁ ≡ put e k (ruleElementRows p i base x))
       bodied x u b le =
           let y = rule-parts p i s 0 x u b in
-          let o : m ≡ 4 + length (string .write (x .name)) = back-got length string s 4 (y .named .1) g h .1 in
+          let o : m ≡ enabledAt 0 x = text-told lengthOf string s 4 (y .named .1) g h .0 in
           let w : m + 24 + length (body p i .write (x .elements)) ≡ ruleBytes p i x = omega (arith, o, y .ends) in
           let v : base + (m + 24 + 2 + length (head i .write tt)) ≡ elementsAt p i base x = omega (arith, o, y .begins) in
           rw (w, v) at (f (x .elements) u (rw o (y .bodied)) (rw v le))
@@ -80,16 +81,17 @@ module _ (p : Product) (s : List ℕ) (base i k : ℕ) (t t₁ e e₁ : List ℕ
       pub rule-bare : {d : Fault} {o : ℕ} → r ≡ No o d → PartFill p s base i k t t₁ e e₁ r
       rule-bare w x u b lt le = unlike (bodied x u b le .0) w
 
-      pub rule-go : {l : Read} {z a n q : ℕ} → l ≡ seen itself stringLength s 4 → l ≡ Got a z → r ≡ Got q n
-          → (ruleWidth * i + ruleWidth ≤ length t → t₁ ≡ put t (ruleWidth * i) (base ∷ (base + q) ∷ (base + a) ∷ n ∷ (base + m) ∷ [])) → PartFill p s base i k t t₁ e e₁ (Got q n)
-      rule-go {a = a} {n = n} {q = q} gl hl w st x u b lt le =
+      pub rule-go : {z n q : ℕ} → z ≡ lengthSize form → r ≡ Got q n
+          → (ruleWidth * i + ruleWidth ≤ length t → t₁ ≡ put t (ruleWidth * i) (base ∷ (base + q) ∷ (base + (4 + z)) ∷ n ∷ (base + m) ∷ [])) → PartFill p s base i k t t₁ e e₁ (Got q n)
+      rule-go {z} {n} {q} j w st x u b lt le =
           let y = rule-parts p i s 0 x u b in
           let d = bodied x u b le in
           let same : Got q n ≡ Got (ruleBytes p i x) (elementsIn x) = sym w ∙ d .0 in
           let ends : base + q ≡ base + ruleBytes p i x = cc in
           let many : n ≡ elementsIn x = cc in
-          let units : base + a ≡ unitsAt base x = omega (arith, back-got itself stringLength s 4 (y .lengthed .1) gl hl .1) in
-          let enabled : base + m ≡ enabledAt base x = omega (arith, back-got length string s 4 (y .named .1) g h .1) in
+          let o = text-told lengthOf string s 4 (y .named .1) g h in
+          let units : base + (4 + z) ≡ unitsAt base x = omega (arith, j, ap lengthSize (o .1 .0), length-size (lengthOf (x .name)) (string-fits unit (x .name) (y .named .1 .fit) .0)) in
+          let enabled : base + m ≡ enabledAt base x = omega (arith, o .0) in
           (same, (st lt ∙ rw (ends, units, many, enabled), d .1))
 
 -- the same at a place of the deck

@@ -20,7 +20,7 @@ use Rattle.format.specs.Laws.Written.{Held}
 use Rattle.format.specs.Laws.Back.{Where, back-got, back-no}
 use Rattle.format.specs.Row.{startIn}
 use Rattle.format.specs.Laws.Skip.{Skipped, nth}
-use Rattle.text.specs.Text.{word}
+use Rattle.text.specs.Text.{word, Text}
 use Rattle.kind.specs.declared.Product.{Product}
 use Rattle.kind.specs.declared.Kind.{Kind}
 use Rattle.kind.specs.declared.Kind.the-variants as Kind
@@ -99,7 +99,7 @@ leading-long j id = go (eqb j 0)
     go false = omega (arith, length-append (spelt 2 0x8001) (spelt 4 id), length-spelt 2 0x8001, length-spelt 4 id)
 
 -- a list as it is written: the number of words, the words
-pub list-written : (p : Product) (j id : ℕ) (ws : List (List ℕ)) → rowIn kinds id ≡ Row.Is Kind.WordList → placed p j .write (id, words ws) ≡ leading j id ++ (spelt 4 (length ws) ++ eachWrite (λ i. word) 0 ws)
+pub list-written : (p : Product) (j id : ℕ) (ws : List Text) → rowIn kinds id ≡ Row.Is Kind.WordList → placed p j .write (id, words ws) ≡ leading j id ++ (spelt 4 (length ws) ++ eachWrite (λ i. word) 0 ws)
 unfolding leading placed pick fixed _then_ seq element identifier judged pair pairWrite number wordData listed counted via each count
 list-written p j id ws e = go (eqb j 0)
   where
@@ -110,7 +110,7 @@ list-written p j id ws e = go (eqb j 0)
 -- in rule k, whose name ends at e and which has these elements, the last of them is a list of c words, whose number stands at t
 pub record EndsInList (k e : ℕ) (els : List Element) (c t : ℕ) : Type 0 where
   pub id : ℕ
-  pub ws : List (List ℕ)
+  pub ws : List Text
   pub is : drop (length els - 1) els ≡ (id, words ws) ∷ []
   pub row : rowIn kinds id ≡ Row.Is Kind.WordList
   pub many : c ≡ length ws
@@ -150,7 +150,7 @@ ends-in-list p s at k e x b ee h =
 no-list : {c : Fault} {q : ℕ} → No 0 Fault.Last ≡ No q c → refuse Fault.Last 0 ≡ refuse c q
 no-list {c} {q} h = let e : c ≡ Fault.Last = cc in let z : q ≡ 0 = cc in rw (e, z)
 
-pub list-none : (j at : ℕ) (xs : List Element) {c : Fault} {q : ℕ} → ofFirst (No 0 Fault.Last) listOf j at xs ≡ No q c → (g : ℕ → List (List ℕ) → Plan) → atList xs g ≡ refuse c q
+pub list-none : (j at : ℕ) (xs : List Element) {c : Fault} {q : ℕ} → ofFirst (No 0 Fault.Last) listOf j at xs ≡ No q c → (g : ℕ → List Text → Plan) → atList xs g ≡ refuse c q
 unfolding atList
 list-none j at [] h g = no-list h
 list-none j at ((id, plain) ∷ xs) h g = no-list h

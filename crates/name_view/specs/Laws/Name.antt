@@ -1,16 +1,19 @@
 -- Laws of ../Name.antt: how the code finds the name of a rule.
-use Prim.Native.Nat.{ℕ, _+_}
+use Prim.Native.Nat.{ℕ, _+_, _-_, _<_}
 use native.Mathlib.Omega.{arith}
-use mathlib.Core.Path.{_≡_, _∙_}
+use mathlib.Core.Path.{_≡_}
 use mathlib.Core.List.{List}
 use lib.ListN.{length}
 use Rattle.format.specs.declared.Fault.{Fault}
 use Rattle.format.specs.declared.Read.{Read}
 use Rattle.format.specs.declared.Read.the-variants as Read
 use Rattle.format.specs.Laws.Back.{Where, stands-room}
+use Rattle.text.specs.declared.StringRead.{StringRead}
+use Rattle.text.specs.Text.{lengthOf, string}
+use Rattle.text.specs.Laws.Text.{textSeen, text-back}
 use Rattle.rule.specs.Rule.{rule}
 use Rattle.rule.specs.Laws.Places.{rule-parts}
-use Rattle.steps.specs.Laws.Steps.{Reached, nameRead, name-read}
+use Rattle.steps.specs.Laws.Steps.{Reached}
 use Rattle.asked.specs.Laws.Asked.{Tells, finds, finds-never}
 use Rattle.view.specs.declared.View.{View}
 use Rattle.view.specs.Laws.View.{unitsOf, units-of}
@@ -21,8 +24,13 @@ module _ (s : List ℕ) (k : ℕ) (v : View) {r : Read} where
   pub name-unreached : {c : Fault} {q : ℕ} → Reached s k k r → r ≡ Read.No q c → Tells s k nameAt v
   name-unreached w i p = finds-never p s k nameAt v w i
 
-  pub name-is : {u at : ℕ} {t : Read} → Reached s k k r → r ≡ Read.Got at u → t ≡ nameRead s at → v ≡ unitsOf (length s) t → Tells s k nameAt v
+  -- a rule has the 4 bytes of its signature
+  pub name-cut : {u at w : ℕ} → Reached s k k r → r ≡ Read.Got at u → w ≡ length s - at → w < 4 → Tells s k nameAt v
+  unfolding Where
+  name-cut {at = at} w i e l p = finds p s k nameAt v w i (λ x b. absurd (omega (arith, stands-room (rule p k) s at (b .1), rule-parts p k s at x (b .0) (b .1) .ends)))
+
+  pub name-is : {u at : ℕ} {t : StringRead} → Reached s k k r → r ≡ Read.Got at u → t ≡ textSeen lengthOf string s (at + 4) → v ≡ unitsOf (length s) t → Tells s k nameAt v
   unfolding Where
   name-is {at = at} w i e h p = finds p s k nameAt v w i (λ x b.
       let y = rule-parts p k s at x (b .0) (b .1) in
-      units-of (length s) (at + 4) (x .name) h (e ∙ name-read s at p k x b) (omega (arith, stands-room (rule p k) s at (b .1), y .ends)))
+      units-of (length s) (at + 4) (x .name) h (text-back lengthOf string s (at + 4) (y .named .1) e) (omega (arith, stands-room (rule p k) s at (b .1), y .ends)))

@@ -4,22 +4,23 @@ use native.Mathlib.Omega.{arith}
 use native.Mathlib.Decide.{decLt}
 use mathlib.Core.Path.{_≡_, refl}
 use mathlib.Core.Bool.{Bool, true, false, _&&_}
-use mathlib.Core.List.{List, [], _∷_, _++_, append-nil}
+use mathlib.Core.List.{List, [], _∷_, _++_}
 use lib.Dec.{leb, eqb}
 use lib.ListN.{length, length-append}
-use borrow.Author.Tests.{le-leb, lt-leb, leb-true, eqb-true, ne-eqb}
+use borrow.Author.Tests.{le-leb, lt-leb, leb-true, eqb-true}
 use Rattle.format.specs.Format.{Bytes, pick}
-use Rattle.format.specs.ReadWrite.{pairWrite, spelt, eachWrite}
+use Rattle.format.specs.ReadWrite.{spelt, eachWrite}
 use Rattle.format.specs.Laws.ReadWrite.{length-spelt}
-use Rattle.format.specs.Combinators.{pair, via, judged, nothing, atStart, number, fixed, each, counted, listed}
-use Rattle.text.specs.Text.{extended, stringLength, string}
+use Rattle.format.specs.Combinators.{number}
+use Rattle.text.specs.Laws.Text.{string-written, length-255, length-other}
+use Rattle.text.specs.Text.{stringLength, string, formOf}
 use Rattle.buffer.specs.Laid.{putIn}
 use Rattle.buffer.specs.Laws.Laid.{put-out, put-both}
-use Rattle.given.specs.Given.{isText, units}
+use Rattle.given.specs.Given.{isText, units, textOf}
 
 -- the length and the units
 unfoldable pub textBytes : List ℕ → List ℕ
-textBytes s = stringLength .write (length s / 2) ++ s
+textBytes s = stringLength .write (formOf (length s / 2), length s / 2) ++ s
 
 -- how many bytes that is; 0 of over 510
 unfoldable pub textSize : List ℕ → ℕ
@@ -53,29 +54,21 @@ units-are i (x ∷ (y ∷ s)) b e =
 pub text-units : (s : List ℕ) → Bytes s → isText s ≡ true → (2 * length (units s) ≡ length s) × (length (units s) ≤ 255)
 text-units s b e = let t = text-parts s e in let u = units-are 0 s b (t .0) .0 in (u, omega (arith, t .1))
 
-pub text-is : (s : List ℕ) → Bytes s → isText s ≡ true → textBytes s ≡ string .write (units s)
-unfolding textBytes string atStart listed counted via pair pairWrite each
+pub text-is : (s : List ℕ) → Bytes s → isText s ≡ true → textBytes s ≡ string .write (textOf s)
+unfolding textBytes
 text-is s b e =
     let u = units-are 0 s b (text-parts s e .0) in
     let n : length s / 2 ≡ length (units s) = omega (arith, u .0) in
-    rw (n, u .1)
+    rw (string-written, n, u .1)
 
 -- ---- as the code puts it
-long-form : (n : ℕ) → n ≡ 255 → stringLength .write n ≡ spelt 3 0x00FFFF
-unfolding stringLength extended via pair pairWrite number fixed judged pick spelt
-long-form n e = rw e
-
-short-form : (n : ℕ) → (n ≡ 255 → ⊥) → stringLength .write n ≡ spelt 1 n
-unfolding stringLength extended via pair pairWrite number nothing pick
-short-form n h = rw (ne-eqb n 255 h) (append-nil (spelt 1 n))
-
 pub size-long : (s : List ℕ) → length s ≤ 510 → length s / 2 ≡ 255 → length s + 3 ≡ textSize s
 unfolding textSize textBytes pick
-size-long s h e = rw (le-leb (length s) 510 h, length-append, long-form (length s / 2) e, length-spelt) (omega arith)
+size-long s h e = rw (le-leb (length s) 510 h, length-append, length-255 (length s / 2) e, length-spelt) (omega arith)
 
 pub size-short : (s : List ℕ) → length s ≤ 510 → (length s / 2 ≡ 255 → ⊥) → length s + 1 ≡ textSize s
 unfolding textSize textBytes pick
-size-short s h e = rw (le-leb (length s) 510 h, length-append, short-form (length s / 2) e, length-spelt) (omega arith)
+size-short s h e = rw (le-leb (length s) 510 h, length-append, length-other (length s / 2) e, length-spelt) (omega arith)
 
 pub size-none : (s : List ℕ) → 510 < length s → 0 ≡ textSize s
 unfolding textSize pick
@@ -94,11 +87,11 @@ text-small s =
 
 pub text-long : (d : List ℕ) (at : ℕ) (s : List ℕ) {y : List ℕ} → length s / 2 ≡ 255 → y ≡ putIn d at (spelt 3 0x00FFFF ++ s) → y ≡ putIn d at (textBytes s)
 unfolding textBytes
-text-long d at s e h = rw (long-form (length s / 2) e) h
+text-long d at s e h = rw (length-255 (length s / 2) e) h
 
 pub text-short : (d : List ℕ) (at : ℕ) (s : List ℕ) {y : List ℕ} → (length s / 2 ≡ 255 → ⊥) → y ≡ putIn d at (spelt 1 (length s / 2) ++ s) → y ≡ putIn d at (textBytes s)
 unfolding textBytes
-text-short d at s e h = rw (short-form (length s / 2) e) h
+text-short d at s e h = rw (length-other (length s / 2) e) h
 
 module _ (d : List ℕ) (at k n : ℕ) (s : List ℕ) where
   pub behind-out : length d < at + (k + length s) → d ≡ putIn d at (spelt k n ++ s)

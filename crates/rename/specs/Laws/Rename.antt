@@ -25,12 +25,13 @@ use Rattle.buffer.specs.Laws.Holds.{Holds, holds-start, holds-open, holds-fill}
 use Rattle.spot.specs.declared.Spot.{Spot}
 use Rattle.spot.specs.declared.Spot.the-variants as Spot
 use Rattle.steps.specs.Laws.Steps.{Sound, Here, here, nameEnd}
-use Rattle.given.specs.Given.{isText, units}
+use Rattle.given.specs.Given.{isText, textOf}
 use Rattle.plan.specs.Edit.{become, rename, edited, renamed}
 use Rattle.plan.specs.Laws.Found.{Makes, Does, found, ground, Ground}
 use Rattle.room.specs.Room.{roomFor}
 use Rattle.room.specs.Laws.Room.{roomy}
-use Rattle.plan.specs.Laws.Makes.{name-ends, replaced-long, written-here, at-rule, no-rule, if-text, no-text, made-no, made-out, made-in}
+use Rattle.plan.specs.Laws.Makes.{name-ends, replaced-long, written-here, at-rule, no-rule, no-text, made-no, made-out, made-in}
+use Rattle.plan.specs.Laws.Forms.{renamed-shortest}
 use Rattle.parts.specs.Laws.Text.{textBytes, textSize, text-size, text-is}
 
 -- the bounds of the name, from a + 4 to e, of a rule that starts at a
@@ -61,7 +62,7 @@ found-named edition n k d {c} {m} {a} {b} {e} bs f g l z = go (ground (λ rs. k)
 -- the String gives way, and its place is filled
 renamed-holds : (d : List ℕ) (n : ℕ) (s : List ℕ) (p : Product) (rs : List Rule) (k : ℕ) {a e len : ℕ} {z y : List ℕ} (h : Here p (take n d) rs k) → n ≤ length d → Bytes s → isText s ≡ true
     → a ≡ startOf rs k → e ≡ enabledAt a (h .r) → len ≡ textSize s → n - (e - (a + 4)) + len ≤ length d → z ≡ opened d n (a + 4) e len → y ≡ putIn z (a + 4) (textBytes s)
-    → Holds y (before (length rs) (take k rs) ++ (front (renamed (units s) (h .r)) ++ (back k (h .r .elements) ++ rules (k + 1) (h .later)))) (max n (n - (e - (a + 4)) + len)) d
+    → Holds y (before (length rs) (take k rs) ++ (front (renamed (textOf s) (h .r)) ++ (back k (h .r .elements) ++ rules (k + 1) (h .later)))) (max n (n - (e - (a + 4)) + len)) d
 unfolding front kept
 renamed-holds d n s p rs k {a} {e} {len} h w bs t ea ee el fits z y =
     let r = h .r in
@@ -72,16 +73,16 @@ renamed-holds d n s p rs k {a} {e} {len} h w bs t ea ee el fits z y =
     let i : take n d ≡ P ++ (Q ++ R) = h .is ∙ simp append-assoc in
     let l : length P ≡ a + 4 = omega (arith, length-append B (spelt 4 (r .signature)), length-spelt 4 (r .signature), h .starts, ea) in
     let f = holds-fill P R (textBytes s) (holds-open P Q R (holds-start d n w) i (length-take-le n d w) l (omega (arith, ee)) fits z) l (el ∙ text-size s t) y in
-    let q : P ++ (textBytes s ++ R) ≡ B ++ (front (renamed (units s) r) ++ (back k (r .elements) ++ rules (k + 1) (h .later))) = rw (text-is s bs t) (simp append-assoc) in
+    let q : P ++ (textBytes s ++ R) ≡ B ++ (front (renamed (textOf s) r) ++ (back k (r .elements) ++ rules (k + 1) (h .later))) = rw (text-is s bs t) (simp append-assoc) in
     rw q at f
 
 renamed-long : (d : List ℕ) (n : ℕ) (s : List ℕ) (p : Product) (rs : List Rule) (k : ℕ) {a e len : ℕ} (h : Here p (take n d) rs k) → n ≤ length d → Bytes s → isText s ≡ true
     → a ≡ startOf rs k → e ≡ enabledAt a (h .r) → len ≡ textSize s
-    → length (before (length rs) (take k rs) ++ (front (renamed (units s) (h .r)) ++ (back k (h .r .elements) ++ rules (k + 1) (h .later)))) ≡ n - (e - (a + 4)) + len
+    → length (before (length rs) (take k rs) ++ (front (renamed (textOf s) (h .r)) ++ (back k (h .r .elements) ++ rules (k + 1) (h .later)))) ≡ n - (e - (a + 4)) + len
 renamed-long d n s p rs k h w bs t ea ee el =
     let B = before (length rs) (take k rs) in
     let L = back k (h .r .elements) ++ rules (k + 1) (h .later) in
-    let x = renamed (units s) (h .r) in
+    let x = renamed (textOf s) (h .r) in
     omega (arith, length-append B (front x ++ L), length-append (front x) L, front-long x, front-long (h .r), ap length (h .is), length-append B (front (h .r) ++ L), length-append (front (h .r)) L, length-take-le n d w, ee, el, text-size s t, ap length (text-is s bs t))
 
 -- ---- what the code does: rule k is renamed s
@@ -98,18 +99,17 @@ module _ (edition n k m a b : ℕ) (s d : List ℕ) where
       go h = made-no n d (at-rule rs k _ (h .from) ∙ no-text s _ t)
 
   -- the edited list, and its length
-  becomes : (p : Product) (rs : List Rule) (h : Here p (take n d) rs k) → isText s ≡ true → edited p (rename k s) rs ≡ become (take k rs ++ (renamed (units s) (h .r) ∷ h .later))
-  unfolding edited
-  becomes p rs h t = at-rule rs k _ (h .from) ∙ if-text s _ t
+  becomes : (p : Product) (rs : List Rule) (h : Here p (take n d) rs k) → isText s ≡ true → edited p (rename k s) rs ≡ become (take k rs ++ (renamed (textOf s) (h .r) ∷ h .later))
+  becomes p rs h t = renamed-shortest p rs k (h .from) s t
 
-  many : (p : Product) (rs : List Rule) (h : Here p (take n d) rs k) → length (take k rs ++ (renamed (units s) (h .r) ∷ h .later)) ≡ length rs
-  many p rs h = replaced-long rs (h .later) k (h .r) (renamed (units s) (h .r)) (h .from)
+  many : (p : Product) (rs : List Rule) (h : Here p (take n d) rs k) → length (take k rs ++ (renamed (textOf s) (h .r) ∷ h .later)) ≡ length rs
+  many p rs h = replaced-long rs (h .later) k (h .r) (renamed (textOf s) (h .r)) (h .from)
 
   becomes-long : (p : Product) (rs : List Rule) (h : Here p (take n d) rs k) {e len : ℕ} → n ≤ length d → k < length rs → Bytes s → isText s ≡ true → a ≡ startOf rs k → e ≡ nameEnd d a → len ≡ textSize s
-      → length (written (take k rs ++ (renamed (units s) (h .r) ∷ h .later))) ≡ n - (e - (a + 4)) + len
+      → length (written (take k rs ++ (renamed (textOf s) (h .r) ∷ h .later))) ≡ n - (e - (a + 4)) + len
   becomes-long p rs h {e} w l bs t ea ee el =
       let g : e ≡ enabledAt a (h .r) = rw ea (rw ea at ee ∙ name-ends n d h) in
-      ap length (written-here rs (h .later) k (h .r) (renamed (units s) (h .r)) (h .from) l) ∙ renamed-long d n s p rs k h w bs t ea g el
+      ap length (written-here rs (h .later) k (h .r) (renamed (textOf s) (h .r)) (h .from) l) ∙ renamed-long d n s p rs k h w bs t ea g el
 
   -- it starts at a, and its name ends at e
   module _ {e len new : ℕ} where
@@ -130,5 +130,5 @@ module _ (edition n k m a b : ℕ) (s d : List ℕ) where
           go : Here p (take n d) rs k → Does n (edited p (rename k s) rs) d o y
           go h =
               let g : e ≡ enabledAt a (h .r) = rw ea (rw ea at ee ∙ name-ends n d h) in
-              made-in n d j x (renamed-holds d n s p rs k h i bs t ea g el (omega (arith, roomy m new (length d) j x .inside)) ez ey) (becomes p rs h t) (sym (written-here rs (h .later) k (h .r) (renamed (units s) (h .r)) (h .from) (omega arith)))
+              made-in n d j x (renamed-holds d n s p rs k h i bs t ea g el (omega (arith, roomy m new (length d) j x .inside)) ez ey) (becomes p rs h t) (sym (written-here rs (h .later) k (h .r) (renamed (textOf s) (h .r)) (h .from) (omega arith)))
               (renamed-long d n s p rs k h i bs t ea g el ∙ sym en) (omega arith) (em ∙ sym (many p rs h))

@@ -10,14 +10,14 @@ use borrow.Author.Tests.{eq-eqb, ne-eqb}
 use Rattle.format.specs.Format.{pick}
 use Rattle.format.specs.ReadWrite.{pairWrite, spelt, bit, eachWrite}
 use Rattle.format.specs.Laws.ReadWrite.{length-spelt}
-use Rattle.format.specs.Combinators.{pair, judged, via, seq, _then_, atStart, number, count, fixed, flag, each, counted, listed, sized, measured}
+use Rattle.format.specs.Combinators.{pair, judged, via, seq, _then_, number, count, fixed, flag, each, counted, sized, measured}
 use Rattle.format.specs.declared.Read.{Read}
 use Rattle.format.specs.declared.Read.the-variants.{Got}
 use Rattle.format.specs.Laws.Seen.{seen, itself}
 use Rattle.format.specs.Laws.Back.{back-got}
 use Rattle.format.specs.Laws.Written.{behind as past, Stands, Held, Row}
 use Rattle.kind.specs.declared.Product.{Product}
-use Rattle.text.specs.Text.{stringLength, string}
+use Rattle.text.specs.Text.{string}
 use Rattle.kind.specs.Kinds.{kinds, rowIn, rowOf}
 use Rattle.element.specs.Element.{Element, isRow, dataBy, identifier, element}
 use Rattle.rule.specs.Rule.{Rule, rule, fields, fromUnknown2, fromUnknown4, body, head, separator, placed}
@@ -36,13 +36,6 @@ long k v w = length-append (spelt k v) w ∙ ap (λ (m : ℕ). m + length w) (le
 four : (s : List ℕ) (at v : ℕ) (w u : List ℕ) → v < 256 ^ 4 → drop at s ≡ (spelt 4 v ++ w) ++ u → Held (number 4) s at v
 unfolding number
 four s at v w u f e = (w ++ u, record { fit = f; is = e ∙ append-assoc (spelt 4 v) w u })
-
--- a String's length stands at its start
-string-length : (s : List ℕ) (at : ℕ) (name u : List ℕ) → Stands string s at name u → Held stringLength s at (length name)
-unfolding string atStart listed counted via pair pairWrite each
-string-length s at name u b =
-    let units = eachWrite (λ i. number 2) 0 name in
-    (units ++ u, record { fit = b .fit .0 .0; is = b .is ∙ append-assoc (stringLength .write (length name)) units u })
 
 -- the number of a rule's elements, its head, its elements
 pub record BodyParts (p : Product) (i : ℕ) (s : List ℕ) (at : ℕ) (xs : List Element) (u : List ℕ) : Type 0 where
@@ -112,7 +105,6 @@ module _ (j at : ℕ) where
 -- its fields; the name ends at a place from which on the others are counted
 pub record RuleParts (p : Product) (i : ℕ) (s : List ℕ) (at : ℕ) (x : Rule) (u : List ℕ) (end : ℕ) : Type 0 where
   pub signed : Held (number 4) s at (x .signature)
-  pub lengthed : Held stringLength s (at + 4) (length (x .name))
   pub named : Held string s (at + 4) (x .name)
   pub switched : Held (number 4) s end (bit (x .on))
   pub two : Held (number 4) s (end + 4) (x .unknown2)
@@ -152,13 +144,11 @@ module _ (p : Product) (i : ℕ) (s : List ℕ) (at : ℕ) (x : Rule) (u : List 
       let e6 = behind s (q + 12) 4 (q + 16) (x .unknown4) w6 u e5 (omega arith) in
       let e7 = behind s (q + 16) 4 (q + 20) (x .unknown5) w7 u e6 (omega arith) in
       let e8 = behind s (q + 20) 4 (q + 24) (length w8) w8 u e7 (omega arith) in
-      let st : Stands string s (at + 4) (x .name) (w2 ++ u) = record { fit = f .1 .0; is = e1 } in
       let bo : Stands (body p i) s (q + 24) (x .elements) u = record { fit = g .1 .1 .1 .1 .0 .0 .1 .0; is = e8 } in
       let en : q + 24 + length w8 ≡ at + ruleBytes p i x = omega (arith, long 4 (x .signature) (n ++ w2), length-append n w2, long 4 (bit (x .on)) w3, long 4 (x .unknown2) w4, long 4 (x .unknown3) w5, long 4 (x .unknown4) w6, long 4 (x .unknown5) w7, long 4 (length w8) w8) in
       record {
         signed = four s at (x .signature) (n ++ w2) u (f .0) (b .is);
-        lengthed = string-length s (at + 4) (x .name) (w2 ++ u) st;
-        named = (w2 ++ u, st);
+        named = (w2 ++ u, record { fit = f .1 .0; is = e1 });
         switched = four s q (bit (x .on)) w3 u (bit-small (x .on)) e2;
         two = four s (q + 4) (x .unknown2) w4 u (g .0) e3;
         three = four s (q + 8) (x .unknown3) w5 u (g .1 .0) e4;

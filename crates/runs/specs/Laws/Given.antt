@@ -4,7 +4,7 @@ use native.Mathlib.Omega.{arith}
 use mathlib.Core.Path.{_≡_, refl, sym, ap, _∙_}
 use mathlib.Core.Bool.{Bool, true, false}
 use mathlib.Core.List.{List, [], _∷_, _++_}
-use lib.Dec.{lit<, eqb}
+use lib.Dec.{eqb}
 use lib.ListN.{length, length-append}
 use Rattle.format.specs.declared.Fault.{Fault}
 use Rattle.format.specs.declared.Fault.the-variants as Fault
@@ -12,8 +12,9 @@ use Rattle.format.specs.Format.{Answer, got, refused, Bytes, pick, whole}
 use Rattle.format.specs.Laws.Format.{apart, mapped-got}
 use Rattle.format.specs.ReadWrite.{AllFit}
 use Rattle.format.specs.Laws.ReadWrite.{within-fits, all-append}
-use Rattle.format.specs.Combinators.{pair, judged, via, atStart, nothing, seq, _then_, number, fixed, count, each, counted, listed}
-use Rattle.text.specs.Text.{extended, stringLength, string, word}
+use Rattle.format.specs.Combinators.{pair, judged, via, number, count, each, counted, listed}
+use Rattle.text.specs.Laws.Text.{length-fits, fits-string, fits-word}
+use Rattle.text.specs.Text.{Text, unit, string, word}
 use Rattle.kind.specs.declared.Product.{Product}
 use Rattle.kind.specs.declared.Kind.{Kind}
 use Rattle.kind.specs.declared.Kind.the-variants as Kind
@@ -23,7 +24,7 @@ use Rattle.kind.specs.Kinds.{kinds, rowIn, rowOf}
 use Rattle.kind.specs.Laws.Kinds.{offered-is}
 use Rattle.element.specs.Data.{words, dataOf, markerData, simpleData, wordData, sizeData, dateData}
 use Rattle.element.specs.Element.{Element, element, identifier, isRow, dataBy}
-use Rattle.given.specs.Given.{isText, units, given, givenBy, withData}
+use Rattle.given.specs.Given.{isText, units, textOf, given, givenBy, withData}
 use Rattle.parts.specs.Laws.Text.{text-units}
 
 -- ---- texts
@@ -33,25 +34,11 @@ units-fit i [] b = tt
 units-fit i (x ∷ []) b = tt
 units-fit i (x ∷ (y ∷ s)) b = (omega (arith, b .0, b .1 .0), units-fit (i + 1) s (b .1 .1))
 
-extended-fits : (n : ℕ) → extended n .Fit tt
-unfolding extended pick fixed via judged number nothing
-extended-fits n = go (eqb n 255)
-  where
-    go : (b : Bool) → pick b (fixed 2 255 Fault.Form) nothing .Fit tt
-    go true = ((lit< tt, refl), refl)
-    go false = tt
+pub text-fits : (s : List ℕ) → Bytes s → isText s ≡ true → string .Fit (textOf s)
+text-fits s b e = fits-string unit (textOf s) (length-fits (length (units s)) (text-units s b e .1)) (units-fit 0 s b)
 
-length-fits : (n : ℕ) → n ≤ 255 → stringLength .Fit n
-unfolding stringLength via pair number
-length-fits n h = ((omega arith, extended-fits n), refl)
-
-pub text-fits : (s : List ℕ) → Bytes s → isText s ≡ true → string .Fit (units s)
-unfolding string atStart listed counted via pair each
-text-fits s b e = ((length-fits (length (units s)) (text-units s b e .1), (refl, units-fit 0 s b)), refl)
-
-pub word-fits : (s : List ℕ) → Bytes s → isText s ≡ true → word .Fit (units s)
-unfolding word _then_ seq via pair fixed judged number
-word-fits s b e = ((((lit< tt, refl), refl), text-fits s b e), refl)
+pub word-fits : (s : List ℕ) → Bytes s → isText s ≡ true → word .Fit (textOf s)
+word-fits s b e = fits-word unit (textOf s) (text-fits s b e)
 
 -- ---- a given element that was accepted
 whole-got : {A : Type 0} (n : ℕ) (a : Answer A) (x : A) (m : ℕ) → whole n a ≡ got x m → a ≡ got x m
@@ -76,14 +63,14 @@ given-fits p id s x n l b e = go (rowOf p id) refl e
         rw (m .1 .1) (((l, ap isRow w), ap isRow h), rw w f)
 
 -- ---- a word more in a list
-more-words : (ws : List (List ℕ)) (us : List ℕ) → wordData .Fit (words ws) → length ws < 64 → word .Fit us → wordData .Fit (words (ws ++ (us ∷ [])))
+more-words : (ws : List Text) (t : Text) → wordData .Fit (words ws) → length ws < 64 → word .Fit t → wordData .Fit (words (ws ++ (t ∷ [])))
 unfolding wordData listed counted via pair each AllFit count judged number
-more-words ws us f l g =
-    let n : length (ws ++ (us ∷ [])) ≡ length ws + 1 = length-append ws (us ∷ []) in
-    ((((omega (arith, n), within-fits 0 64 (length (ws ++ (us ∷ []))) (omega arith) (omega (arith, n))), (refl, all-append (λ i. word) 0 ws (us ∷ []) (f .0 .0 .1 .1) (g, tt))), refl), refl)
+more-words ws t f l g =
+    let n : length (ws ++ (t ∷ [])) ≡ length ws + 1 = length-append ws (t ∷ []) in
+    ((((omega (arith, n), within-fits 0 64 (length (ws ++ (t ∷ []))) (omega arith) (omega (arith, n))), (refl, all-append (λ i. word) 0 ws (t ∷ []) (f .0 .0 .1 .1) (g, tt))), refl), refl)
 
 -- of the kinds only a word list has words
-word-list : (k : Kind) (ws : List (List ℕ)) → dataOf k .Fit (words ws) → k ≡ Kind.WordList
+word-list : (k : Kind) (ws : List Text) → dataOf k .Fit (words ws) → k ≡ Kind.WordList
 unfolding markerData simpleData sizeData dateData via
 word-list Kind.Marker ws f = absurd (let z : _≡_ {A = ℕ} 0 1 = cc (f .1) in omega arith)
 word-list (Kind.Simple r) ws f = absurd (let z : _≡_ {A = ℕ} 0 1 = cc (f .1) in omega arith)
@@ -91,10 +78,10 @@ word-list Kind.WordList ws f = refl
 word-list (Kind.Size r) ws f = absurd (let z : _≡_ {A = ℕ} 0 1 = cc (f .1) in omega arith)
 word-list (Kind.Dates r) ws f = absurd (let z : _≡_ {A = ℕ} 0 1 = cc (f .1) in omega arith)
 
-pub word-more : (p : Product) (id : ℕ) (ws : List (List ℕ)) (us : List ℕ) → element p .Fit (id, words ws) → length ws < 64 → word .Fit us → element p .Fit (id, words (ws ++ (us ∷ [])))
+pub word-more : (p : Product) (id : ℕ) (ws : List Text) (t : Text) → element p .Fit (id, words ws) → length ws < 64 → word .Fit t → element p .Fit (id, words (ws ++ (t ∷ [])))
 unfolding element pair identifier judged
-word-more p id ws us f l g = (f .0, by (rowIn kinds id) refl (f .1))
+word-more p id ws t f l g = (f .0, by (rowIn kinds id) refl (f .1))
   where
-    by : (w : Row) → rowIn kinds id ≡ w → dataBy w .Fit (words ws) → dataBy w .Fit (words (ws ++ (us ∷ [])))
-    by (Row.Is k) e h = let i = word-list k ws h in rw i (more-words ws us (rw i at h) l g)
+    by : (w : Row) → rowIn kinds id ≡ w → dataBy w .Fit (words ws) → dataBy w .Fit (words (ws ++ (t ∷ [])))
+    by (Row.Is k) e h = let i = word-list k ws h in rw i (more-words ws t (rw i at h) l g)
     by (Row.No c q) e h = absurd (let z : _≡_ {A = Bool} false true = sym (ap isRow e) ∙ f .0 .0 .1 in let y : _≡_ {A = ℕ} 0 1 = cc in omega arith)

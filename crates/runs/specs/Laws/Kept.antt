@@ -11,7 +11,7 @@ use Rattle.format.specs.declared.Fault.{Fault}
 use Rattle.format.specs.Format.{Answer, got, refused, Format, pick}
 use Rattle.format.specs.ReadWrite.{AllFit}
 use Rattle.format.specs.Laws.ReadWrite.{all-append, all-take, all-drop}
-use Rattle.text.specs.Text.{string, word}
+use Rattle.text.specs.Text.{string, word, Text}
 use Rattle.kind.specs.declared.Product.{Product}
 use Rattle.element.specs.Data.{plain, words, sizes, span}
 use Rattle.element.specs.Element.{Element, element}
@@ -21,7 +21,7 @@ use Rattle.rule.specs.Laws.Rule.{one-placed, fits-placed}
 use Rattle.deck.specs.Laws.Deck.{read-writes-back}
 use Rattle.deck.specs.Written.{written}
 use Rattle.room.specs.Laws.Room.{room-judged}
-use Rattle.given.specs.Given.{isText, units}
+use Rattle.given.specs.Given.{isText, textOf}
 use Rattle.plan.specs.Edit.{Edit, switch, rename, remove, insert, addRule, addElement, addWord, Plan, become, refuse, refuseGiven, atRule, atCopy, atSecond, atLast, atList, unlessFull, ifText, atGiven, edited, ifDone, inRoom, switched, renamed, holding, newRule}
 use Rattle.plan.specs.Handed.{HandedFields, Handed}
 use Rattle.runs.specs.Laws.Fits.{Every, every-append, every-take, every-drop, Fits, fits-deck}
@@ -73,7 +73,7 @@ module _ {rs : List Rule} where
   of-last [] f e = no-list e
   of-last (r ∷ later) f e = (r, (later, (refl, e)))
 
-  of-list : (ys : List Element) (f : ℕ → List (List ℕ) → Plan) → atList ys f ≡ become rs → (id : ℕ) × ((ws : List (List ℕ)) × ((later : List Element) × ((ys ≡ (id, words ws) ∷ later) × (f id ws ≡ become rs))))
+  of-list : (ys : List Element) (f : ℕ → List Text → Plan) → atList ys f ≡ become rs → (id : ℕ) × ((ws : List Text) × ((later : List Element) × ((ys ≡ (id, words ws) ∷ later) × (f id ws ≡ become rs))))
   unfolding atList
   of-list [] f e = no-list e
   of-list ((id, plain) ∷ later) f e = no-list e
@@ -99,8 +99,8 @@ module _ (p : Product) (r : Rule) (f : Fits p r) where
   switched-fits : (b : Bool) → Fits p (switched b r)
   switched-fits b = record { signature = f .signature; name = f .name; unknown2 = f .unknown2; unknown3 = f .unknown3; unknown4 = f .unknown4; unknown5 = f .unknown5; some = f .some; few = f .few; elements = f .elements }
 
-  renamed-fits : (us : List ℕ) → string .Fit us → Fits p (renamed us r)
-  renamed-fits us g = record { signature = f .signature; name = g; unknown2 = f .unknown2; unknown3 = f .unknown3; unknown4 = f .unknown4; unknown5 = f .unknown5; some = f .some; few = f .few; elements = f .elements }
+  renamed-fits : (t : Text) → string .Fit t → Fits p (renamed t r)
+  renamed-fits t g = record { signature = f .signature; name = g; unknown2 = f .unknown2; unknown3 = f .unknown3; unknown4 = f .unknown4; unknown5 = f .unknown5; some = f .some; few = f .few; elements = f .elements }
 
   holding-fits : (xs : List Element) → AllFit (placed p) 0 xs → 1 ≤ length xs → length xs ≤ 64 → Fits p (holding xs r)
   holding-fits xs g l m = record { signature = f .signature; name = f .name; unknown2 = f .unknown2; unknown3 = f .unknown3; unknown4 = f .unknown4; unknown5 = f .unknown5; some = l; few = m; elements = g }
@@ -111,20 +111,20 @@ module _ (p : Product) (r : Rule) (f : Fits p r) where
       let n : length (r .elements ++ (x ∷ [])) ≡ length (r .elements) + 1 = length-append (r .elements) (x ∷ []) in
       holding-fits (r .elements ++ (x ∷ [])) (all-append (placed p) 0 (r .elements) (x ∷ []) (f .elements) (one-placed p _ x g)) (omega (arith, n)) (omega (arith, n))
 
-  wordy-fits : (k id : ℕ) (ws : List (List ℕ)) (later : List Element) (us : List ℕ) → drop k (r .elements) ≡ (id, words ws) ∷ later → length ws < 64 → word .Fit us
-      → Fits p (holding (take k (r .elements) ++ ((id, words (ws ++ (us ∷ []))) ∷ [])) r)
-  wordy-fits k id ws later us e l g =
-      let x : Element = (id, words (ws ++ (us ∷ []))) in
+  wordy-fits : (k id : ℕ) (ws : List Text) (later : List Element) (w : Text) → drop k (r .elements) ≡ (id, words ws) ∷ later → length ws < 64 → word .Fit w
+      → Fits p (holding (take k (r .elements) ++ ((id, words (ws ++ (w ∷ []))) ∷ [])) r)
+  wordy-fits k id ws later w e l g =
+      let x : Element = (id, words (ws ++ (w ∷ []))) in
       let o = all-rest (placed p) 0 k (r .elements) later (id, words ws) (f .elements) e in
-      let w : element p .Fit x = word-more p id ws us (fits-placed p (0 + k) (id, words ws) o) l g in
+      let y : element p .Fit x = word-more p id ws w (fits-placed p (0 + k) (id, words ws) o) l g in
       let n : length (take k (r .elements) ++ (x ∷ [])) ≡ length (take k (r .elements)) + 1 = length-append (take k (r .elements)) (x ∷ []) in
       let m = length-append (take k (r .elements)) (drop k (r .elements)) in
       let t = ap length (take-append-drop k (r .elements)) in
       let v = ap length e in
-      holding-fits (take k (r .elements) ++ (x ∷ [])) (all-append (placed p) 0 (take k (r .elements)) (x ∷ []) (all-take (placed p) 0 k (r .elements) (f .elements)) (one-placed p _ x w)) (omega (arith, n)) (omega (arith, n, m, t, v, f .few))
+      holding-fits (take k (r .elements) ++ (x ∷ [])) (all-append (placed p) 0 (take k (r .elements)) (x ∷ []) (all-take (placed p) 0 k (r .elements) (f .elements)) (one-placed p _ x y)) (omega (arith, n)) (omega (arith, n, m, t, v, f .few))
 
-new-fits : (p : Product) (us : List ℕ) (f : Fields) (x : Element) → HandedFields f → string .Fit us → element p .Fit x → Fits p (newRule us f x)
-new-fits p us f x s g w = record { signature = s .0; name = g; unknown2 = s .1 .0; unknown3 = s .1 .1 .0; unknown4 = s .1 .1 .1 .0; unknown5 = s .1 .1 .1 .1; some = omega arith; few = omega arith; elements = one-placed p 0 x w }
+new-fits : (p : Product) (t : Text) (f : Fields) (x : Element) → HandedFields f → string .Fit t → element p .Fit x → Fits p (newRule t f x)
+new-fits p t f x s g w = record { signature = s .0; name = g; unknown2 = s .1 .0; unknown3 = s .1 .1 .0; unknown4 = s .1 .1 .1 .0; unknown5 = s .1 .1 .1 .1; some = omega arith; few = omega arith; elements = one-placed p 0 x w }
 
 -- ---- every edit
 became : {xs ys : List Rule} → become xs ≡ become ys → xs ≡ ys
@@ -150,7 +150,7 @@ module _ (p : Product) (rs : List Rule) (f : Every (Fits p) rs) where
       let o = of-rule _ _ q in
       let w = from-k k (o .0) (o .1 .0) (o .1 .1 .0) in
       let t = of-text name _ (o .1 .1 .1) in
-      rw (← became (t .1)) (put-k k _ (renamed-fits p (o .0) (w .0) (units name) (text-fits name h (t .0)), w .1))
+      rw (← became (t .1)) (put-k k _ (renamed-fits p (o .0) (w .0) (textOf name) (text-fits name h (t .0)), w .1))
   edited-fits (remove k) xs h q =
       let o = of-rule _ _ q in
       let w = from-k k (o .0) (o .1 .0) (o .1 .1 .0) in
@@ -166,7 +166,7 @@ module _ (p : Product) (rs : List Rule) (f : Every (Fits p) rs) where
       let t = of-text name _ q in
       let o = of-given _ _ (t .1) in
       let w = given-fits p id s (o .0) (o .1 .0) (h .1 .1 .0) (h .1 .1 .1) (o .1 .1 .0) in
-      rw (← became (o .1 .1 .1)) (every-append (Fits p) rs _ f (new-fits p (units name) g (o .0) (h .1 .0) (text-fits name (h .0) (t .0)) w, tt))
+      rw (← became (o .1 .1 .1)) (every-append (Fits p) rs _ f (new-fits p (textOf name) g (o .0) (h .1 .0) (text-fits name (h .0) (t .0)) w, tt))
   edited-fits (addElement id s) xs h q =
       let l = of-last _ _ q in
       let w = from-k (length rs - 1) (l .0) (l .1 .0) (l .1 .1 .0) in
@@ -180,4 +180,4 @@ module _ (p : Product) (rs : List Rule) (f : Every (Fits p) rs) where
       let o = of-list _ _ (l .1 .1 .1) in
       let u = of-full _ _ (o .1 .1 .1 .1) in
       let t = of-text word _ (u .1) in
-      rw (← became (t .1)) (put-k (length rs - 1) _ (wordy-fits p (l .0) (w .0) (length (l .0 .elements) - 1) (o .0) (o .1 .0) (o .1 .1 .0) (units word) (o .1 .1 .1 .0) (u .0) (word-fits word h (t .0)), tt))
+      rw (← became (t .1)) (put-k (length rs - 1) _ (wordy-fits p (l .0) (w .0) (length (l .0 .elements) - 1) (o .0) (o .1 .0) (o .1 .1 .0) (textOf word) (o .1 .1 .1 .0) (u .0) (word-fits word h (t .0)), tt))

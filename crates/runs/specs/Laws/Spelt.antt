@@ -9,8 +9,9 @@ use Rattle.format.specs.Format.{Format, Bytes, pick}
 use Rattle.format.specs.Laws.Format.{bytes-append}
 use Rattle.format.specs.ReadWrite.{pairWrite, value, spelt, bit, eachWrite}
 use Rattle.format.specs.Laws.ReadWrite.{bytes-spelt, bytes-each}
-use Rattle.format.specs.Combinators.{pair, seq, _then_, judged, via, atStart, nothing, number, count, fixed, bytes, flag, each, counted, listed}
-use Rattle.text.specs.Text.{extended, stringLength, string, word}
+use Rattle.format.specs.Combinators.{pair, seq, _then_, judged, via, nothing, number, count, fixed, bytes, flag, each, counted, listed}
+use Rattle.text.specs.Laws.Text.{length-bytes, string-written}
+use Rattle.text.specs.Text.{lengthOf, stringLength, string, wordOf, word}
 use Rattle.date.specs.Date.{date}
 use Rattle.kind.specs.declared.Kind.{Kind}
 use Rattle.kind.specs.declared.Kind.the-variants as Kind
@@ -42,20 +43,12 @@ unfolding fixed via judged number
 spells-fixed k v c x = bytes-spelt k v
 
 -- ---- texts
-length-spells : Spells stringLength
-unfolding stringLength extended via pair pairWrite number nothing pick Bytes
-length-spells n = bytes-append (spelt 1 n) _ (bytes-spelt 1 n) (go (eqb n 255))
-  where
-    go : (b : Bool) → Bytes (pick b (fixed 2 255 Fault.Form) nothing .write tt)
-    go true = spells-fixed 2 255 Fault.Form tt
-    go false = tt
-
 string-spells : Spells string
-unfolding string atStart listed counted via pair pairWrite each number
-string-spells us = bytes-append (stringLength .write (length us)) _ (length-spells (length us)) (bytes-each (λ j. number 2) 0 us (λ j x. bytes-spelt 2 x))
+unfolding number
+string-spells t = rw string-written (bytes-append (stringLength .write (lengthOf t)) _ (length-bytes (lengthOf t)) (bytes-each (λ j. number 2) 0 (t .units) (λ j x. bytes-spelt 2 x)))
 
 word-spells : Spells word
-unfolding word
+unfolding wordOf
 word-spells = spells-then (fixed 4 0 Fault.Field) string (spells-fixed 4 0 Fault.Field) string-spells
 
 -- ---- elements

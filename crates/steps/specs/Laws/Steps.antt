@@ -17,7 +17,7 @@ use Rattle.format.specs.Format.{got, Bytes, pick}
 use Rattle.format.specs.ReadWrite.{eachWrite}
 use Rattle.format.specs.Laws.ReadWrite.{length-spelt}
 use Rattle.format.specs.Combinators.{number}
-use Rattle.format.specs.Laws.Seen.{seen, itself, unlike, got-at}
+use Rattle.format.specs.Laws.Seen.{seen, itself, unlike, got-at, none}
 use Rattle.format.specs.Laws.Written.{Held, Row}
 use Rattle.format.specs.Laws.Back.{Where, stands-seen, stands-room, seen-ends}
 use Rattle.format.specs.Row.{startIn}
@@ -93,7 +93,7 @@ Follows s at r = (p : Product) (i : ℕ) → Where (rule p i) s at (λ x. Got (a
 
 -- the name of the rule that starts at a place: behind the 4 bytes of its signature
 unfoldable pub nameRead : List ℕ → ℕ → Read
-nameRead s at = pick (leb 4 (length s - at)) (seen length string s (at + 4)) (No at Fault.Cut)
+nameRead s at = pick (leb 4 (length s - at)) (seen none string s (at + 4)) (No at Fault.Cut)
 
 -- where it ends; where no String can be read there, the place itself
 abbrev pub ended : ℕ → Read → ℕ
@@ -104,12 +104,12 @@ unfoldable pub nameEnd : List ℕ → ℕ → ℕ
 nameEnd s at = ended at (nameRead s at)
 
 module _ (s : List ℕ) (at : ℕ) where
-  pub name-read : (p : Product) (i : ℕ) (x : Rule) → Held (rule p i) s at x → nameRead s at ≡ Got (enabledAt at x) (length (x .name))
+  pub name-read : (p : Product) (i : ℕ) (x : Rule) → Held (rule p i) s at x → nameRead s at ≡ Got (enabledAt at x) 0
   unfolding nameRead pick
   name-read p i x b =
       let y = rule-parts p i s at x (b .0) (b .1) in
       let h : 4 ≤ length s - at = omega (arith, stands-room (rule p i) s at (b .1), y .ends) in
-      rw (le-leb 4 (length s - at) h) (stands-seen length string s (at + 4) (y .named .1))
+      rw (le-leb 4 (length s - at) h) (stands-seen none string s (at + 4) (y .named .1))
 
   pub name-end : (p : Product) (i : ℕ) (x : Rule) → Held (rule p i) s at x → nameEnd s at ≡ enabledAt at x
   unfolding nameEnd
@@ -123,16 +123,16 @@ module _ (s : List ℕ) (at : ℕ) where
   unfolding nameRead pick
   name-past {w} e h = rw (lt-leb 4 (length s - at) (omega arith))
 
-  pub name-is : {w : ℕ} {t : Read} → w ≡ length s - at → 4 ≤ w → t ≡ seen length string s (at + 4) → t ≡ nameRead s at
+  pub name-is : {w : ℕ} {t : Read} → w ≡ length s - at → 4 ≤ w → t ≡ seen none string s (at + 4) → t ≡ nameRead s at
   unfolding nameRead pick
   name-is e h f = rw (le-leb 4 (length s - at) (omega arith)) f
 
   pub name-within : at ≤ length s → nameEnd s at ≤ length s
   unfolding nameEnd nameRead pick
-  name-within l = go (leb 4 (length s - at)) refl (seen length string s (at + 4)) refl
+  name-within l = go (leb 4 (length s - at)) refl (seen none string s (at + 4)) refl
     where
-      go : (b : Bool) → leb 4 (length s - at) ≡ b → (t : Read) → seen length string s (at + 4) ≡ t → ended at (pick b t (No at Fault.Cut)) ≤ length s
-      go true e (Got n v) f = omega (arith, leb-true 4 (length s - at) e, seen-ends length string s (at + 4) refl f)
+      go : (b : Bool) → leb 4 (length s - at) ≡ b → (t : Read) → seen none string s (at + 4) ≡ t → ended at (pick b t (No at Fault.Cut)) ≤ length s
+      go true e (Got n v) f = omega (arith, leb-true 4 (length s - at) e, seen-ends none string s (at + 4) refl f)
       go true e (No q c) f = l
       go false e t f = l
 

@@ -9,10 +9,10 @@ returns : tie.Need-returns
 returns c = search (needs, string-stop)
 
 mul-end : tie.Need-mul-end
-mul-end c = let k = length-few _ _ (bytes-all (c .before .before .before .before .before .args .s .now) (c .before .before .before .before .shared-slice-known .given)) (c .before .before .before .length-at .ensures) (c .before .l .given .1) in omega (arith, k)
+mul-end c = let k = length-few _ _ (c .before .before .before .length-at .ensures) (bytes-all (c .before .before .before .before .before .args .s .now) (c .before .before .before .before .shared-slice-known .given)) (c .before .l .given .1) in omega (arith, k)
 
 add-end : tie.Need-add-end
-add-end c = let k = length-few _ _ (bytes-all (c .before .before .before .before .before .args .s .now) (c .before .before .before .before .shared-slice-known .given)) (c .before .before .before .length-at .ensures) (c .before .l .given .1) in let e = length-ends _ _ (c .before .before .before .length-at .ensures) (c .before .l .given .1) in search (needs, k, e)
+add-end c = let k = length-few _ _ (c .before .before .before .length-at .ensures) (bytes-all (c .before .before .before .before .before .args .s .now) (c .before .before .before .before .shared-slice-known .given)) (c .before .l .given .1) in let e = length-ends _ _ (c .before .before .before .length-at .ensures) (c .before .l .given .1) in search (needs, k, e)
 
 returns-2 : tie.Need-returns-2
 returns-2 c = search (needs, string-cut)

@@ -5,7 +5,7 @@ use Rattle.view.proofs.no_view.Tie as tie
 
 returns : tie.Need-returns
 unfolding noView
-returns c = search needs
+returns c = simp (c .enum-told .given .1)
 
 returns-2 : tie.Need-returns-2
 unfolding noView

@@ -14,11 +14,12 @@ use Rattle.format.specs.declared.Read.{Read}
 use Rattle.format.specs.declared.Read.the-variants as Read
 use Rattle.format.specs.Laws.Fault.{endSays}
 use Rattle.format.specs.Format.{Bytes}
-use Rattle.format.specs.ReadWrite.{pairWrite, spelt, eachWrite}
+use Rattle.format.specs.ReadWrite.{spelt, eachWrite}
 use Rattle.format.specs.Laws.ReadWrite.{length-spelt, each-append}
-use Rattle.format.specs.Combinators.{pair, judged, via, seq, _then_, number, fixed}
+use Rattle.format.specs.Combinators.{judged, number}
 use Rattle.format.specs.Laws.Back.{Where}
-use Rattle.text.specs.Text.{string, word}
+use Rattle.text.specs.Laws.Text.{word-written}
+use Rattle.text.specs.Text.{string, word, Text, unit}
 use Rattle.kind.specs.declared.Product.{Product}
 use Rattle.kind.specs.declared.Product.the-variants.{Studio}
 use Rattle.kind.specs.declared.Kind.the-variants as Kind
@@ -37,7 +38,7 @@ use Rattle.buffer.specs.Laws.Laid.{put-both}
 use Rattle.buffer.specs.Laws.Holds.{Holds, holds-put, holds-behind}
 use Rattle.locate.specs.Laws.Located.{lastOf}
 use Rattle.steps.specs.Laws.Steps.{Here, nameEnd}
-use Rattle.given.specs.Given.{isText, units}
+use Rattle.given.specs.Given.{isText, textOf}
 use Rattle.plan.specs.Edit.{Plan, become, addWord, edited, holding, atList, unlessFull, ifText}
 use Rattle.plan.specs.Laws.Found.{MakesAs, Does}
 use Rattle.plan.specs.Laws.Last.{rules-none, among, as-many, on-none, on-last}
@@ -56,21 +57,21 @@ word-long : (s : List ℕ) → length (wordBytes s) ≡ 4 + length (textBytes s)
 unfolding wordBytes
 word-long s = omega (arith, length-append (spelt 4 0) (textBytes s), length-spelt 4 0)
 
-word-is : (s : List ℕ) → textBytes s ≡ string .write (units s) → word .write (units s) ≡ wordBytes s
-unfolding word wordBytes fixed _then_ seq via judged pair pairWrite number
-word-is s e = rw (← e)
+word-is : (s : List ℕ) → textBytes s ≡ string .write (textOf s) → word .write (textOf s) ≡ wordBytes s
+unfolding wordBytes
+word-is s e = word-written unit (textOf s) ∙ rw (← e)
 
 word-put : (d : List ℕ) (at : ℕ) (s : List ℕ) {y z : List ℕ} → y ≡ putIn d at (spelt 4 0) → z ≡ putIn y (at + 4) (textBytes s) → at + 4 + length (textBytes s) ≤ length d → z ≡ putIn d at (wordBytes s)
 unfolding wordBytes
 word-put d at s e f h = let l = length-spelt 4 0 in put-both d at (spelt 4 0) (textBytes s) e f (omega arith) (omega arith)
 
 -- ---- the elements, the last of which is a list
-list-inner : (xs : List Element) (id : ℕ) (ws : List (List ℕ)) → rowIn kinds id ≡ Row.Is Kind.WordList → inner (xs ++ ((id, words ws) ∷ [])) ≡ (inner xs ++ leading (length xs) id) ++ (spelt 4 (length ws) ++ eachWrite (λ i. word) 0 ws)
+list-inner : (xs : List Element) (id : ℕ) (ws : List Text) → rowIn kinds id ≡ Row.Is Kind.WordList → inner (xs ++ ((id, words ws) ∷ [])) ≡ (inner xs ++ leading (length xs) id) ++ (spelt 4 (length ws) ++ eachWrite (λ i. word) 0 ws)
 list-inner xs id ws e = inner-more xs (id, words ws) ∙ ap (λ (t : List ℕ). inner xs ++ t) (list-written Studio (length xs) id ws e) ∙ sym (append-assoc (inner xs) (leading (length xs) id) (spelt 4 (length ws) ++ eachWrite (λ i. word) 0 ws))
 
-words-more : (ws : List (List ℕ)) (s : List ℕ) → textBytes s ≡ string .write (units s) → eachWrite (λ i. word) 0 (ws ++ (units s ∷ [])) ≡ eachWrite (λ i. word) 0 ws ++ wordBytes s
+words-more : (ws : List Text) (s : List ℕ) → textBytes s ≡ string .write (textOf s) → eachWrite (λ i. word) 0 (ws ++ (textOf s ∷ [])) ≡ eachWrite (λ i. word) 0 ws ++ wordBytes s
 unfolding eachWrite
-words-more ws s e = each-append (λ i. word) 0 ws (units s ∷ []) ∙ rw (append-nil, word-is s e)
+words-more ws s e = each-append (λ i. word) 0 ws (textOf s ∷ []) ∙ rw (append-nil, word-is s e)
 
 -- the back of the rule, before and after
 module _ (k : ℕ) (els : List Element) (e : ℕ) {c t : ℕ} (o : EndsInList k e els c t) (l : 0 < length els) where
@@ -89,18 +90,18 @@ module _ (k : ℕ) (els : List Element) (e : ℕ) {c t : ℕ} (o : EndsInList k 
       let i = list-inner (take (length els - 1) els) (o .id) (o .ws) (o .row) in
       ap inner elements-are ∙ (rw (init-long, ← o .many) at i)
 
-  inner-longer : (s : List ℕ) → textBytes s ≡ string .write (units s) → inner (take (length els - 1) els ++ ((o .id, words (o .ws ++ (units s ∷ []))) ∷ [])) ≡ upTo ++ (spelt 4 (c + 1) ++ (eachWrite (λ i. word) 0 (o .ws) ++ wordBytes s))
+  inner-longer : (s : List ℕ) → textBytes s ≡ string .write (textOf s) → inner (take (length els - 1) els ++ ((o .id, words (o .ws ++ (textOf s ∷ []))) ∷ [])) ≡ upTo ++ (spelt 4 (c + 1) ++ (eachWrite (λ i. word) 0 (o .ws) ++ wordBytes s))
   inner-longer s b =
-      let i = list-inner (take (length els - 1) els) (o .id) (o .ws ++ (units s ∷ [])) (o .row) in
-      let m : length (o .ws ++ (units s ∷ [])) ≡ c + 1 = length-append (o .ws) (units s ∷ []) ∙ ap (λ (v : ℕ). v + 1) (sym (o .many)) in
+      let i = list-inner (take (length els - 1) els) (o .id) (o .ws ++ (textOf s ∷ [])) (o .row) in
+      let m : length (o .ws ++ (textOf s ∷ [])) ≡ c + 1 = length-append (o .ws) (textOf s ∷ []) ∙ ap (λ (v : ℕ). v + 1) (sym (o .many)) in
       rw (init-long, words-more (o .ws) s b, m) at i
 
   -- one more word
   abbrev longer : List ℕ → List Element
-  longer s = take (length els - 1) els ++ ((o .id, words (o .ws ++ (units s ∷ []))) ∷ [])
+  longer s = take (length els - 1) els ++ ((o .id, words (o .ws ++ (textOf s ∷ []))) ∷ [])
 
   longer-many : (s : List ℕ) → length (longer s) ≡ length els
-  longer-many s = length-append (take (length els - 1) els) ((o .id, words (o .ws ++ (units s ∷ []))) ∷ []) ∙ omega (arith, init-long)
+  longer-many s = length-append (take (length els - 1) els) ((o .id, words (o .ws ++ (textOf s ∷ []))) ∷ []) ∙ omega (arith, init-long)
 
   -- what is behind the number of words
   abbrev tail : List ℕ → List ℕ
@@ -111,7 +112,7 @@ module _ (k : ℕ) (els : List Element) (e : ℕ) {c t : ℕ} (o : EndsInList k 
       let W = eachWrite (λ i. word) 0 (o .ws) in
       omega (arith, length-append upTo (spelt 4 v ++ tail s), length-append (spelt 4 v) (tail s), length-append W (wordBytes s), length-spelt 4 v, word-long s, ap length inner-is, length-append upTo (spelt 4 c ++ W), length-append (spelt 4 c) W, length-spelt 4 c)
 
-  back-longer : (n : ℕ) (s : List ℕ) → textBytes s ≡ string .write (units s) → e + 24 + sizeOf k els ≡ n
+  back-longer : (n : ℕ) (s : List ℕ) → textBytes s ≡ string .write (textOf s) → e + 24 + sizeOf k els ≡ n
       → back k (longer s) ≡ spelt 4 (n + 4 + length (textBytes s) - (e + 24)) ++ (spelt 2 (length els) ++ (headBytes k ++ (upTo ++ (spelt 4 (c + 1) ++ tail s))))
   unfolding back sizeOf
   back-longer n s b g =
@@ -124,8 +125,8 @@ module _ (k : ℕ) (els : List Element) (e : ℕ) {c t : ℕ} (o : EndsInList k 
 unfoldable pub Lengthens : ℕ → ℕ → ℕ → ℕ → ℕ → List ℕ → List ℕ → Outcome → List ℕ → Type 0
 Lengthens n m e t c s d r d′ =
     (p : Product) (rs : List Rule) (k : ℕ) (h : Here p (take n d) rs k) (o : EndsInList k e (h .r .elements) c t) → h .later ≡ [] → n ≤ length d → m ≡ length rs
-    → e ≡ enabledAt (startOf rs k) (h .r) → textBytes s ≡ string .write (units s)
-    → Does n (become (take k rs ++ (holding (take (length (h .r .elements) - 1) (h .r .elements) ++ ((o .id, words (o .ws ++ (units s ∷ []))) ∷ [])) (h .r) ∷ []))) d r d′
+    → e ≡ enabledAt (startOf rs k) (h .r) → textBytes s ≡ string .write (textOf s)
+    → Does n (become (take k rs ++ (holding (take (length (h .r .elements) - 1) (h .r .elements) ++ ((o .id, words (o .ws ++ (textOf s ∷ []))) ∷ [])) (h .r) ∷ []))) d r d′
 
 module _ (n m e t c : ℕ) (s d : List ℕ) where
   module _ {p : Product} {rs : List Rule} {k : ℕ} (h : Here p (take n d) rs k) (o : EndsInList k e (h .r .elements) c t) (z : h .later ≡ []) (w : n ≤ length d) (g : e ≡ enabledAt (startOf rs k) (h .r)) (l : 0 < length (h .r .elements)) where
@@ -133,7 +134,7 @@ module _ (n m e t c : ℕ) (s d : List ℕ) where
     abbrev bytesWith : ℕ → ℕ → List ℕ
     bytesWith S C = before (length rs) (take k rs) ++ (front (h .r) ++ (spelt 4 S ++ (spelt 2 (length (h .r .elements)) ++ (headBytes k ++ (upTo k (h .r .elements) e o l ++ (spelt 4 C ++ tail k (h .r .elements) e o l s))))))
 
-    longer-written : (b : textBytes s ≡ string .write (units s)) → written (take k rs ++ (holding (longer k (h .r .elements) e o l s) (h .r) ∷ [])) ≡ bytesWith (n + 4 + length (textBytes s) - (e + 24)) (c + 1)
+    longer-written : (b : textBytes s ≡ string .write (textOf s)) → written (take k rs ++ (holding (longer k (h .r .elements) e o l s) (h .r) ∷ [])) ≡ bytesWith (n + 4 + length (textBytes s) - (e + 24)) (c + 1)
     unfolding front kept
     longer-written b =
         let f′ : drop k rs ≡ h .r ∷ [] = h .from ∙ rw z in
@@ -197,14 +198,14 @@ module _ (n m e t c : ℕ) (s d : List ℕ) where
 
 -- ---- what is judged before
 
-at-words : {k e : ℕ} {els : List Element} {c t : ℕ} (o : EndsInList k e els c t) (g : ℕ → List (List ℕ) → Plan) → atList (drop (length els - 1) els) g ≡ g (o .id) (o .ws)
+at-words : {k e : ℕ} {els : List Element} {c t : ℕ} (o : EndsInList k e els c t) (g : ℕ → List Text → Plan) → atList (drop (length els - 1) els) g ≡ g (o .id) (o .ws)
 unfolding atList
 at-words o g = rw (o .is)
 
 -- the last rule with a word more in the list that is its last element
 abbrev withWord : List ℕ → List Rule → ℕ → Rule → Plan
 withWord s rs k r = atList (drop (length (r .elements) - 1) (r .elements)) λ id ws. unlessFull (length ws)
-    (ifText s (become (take k rs ++ (holding (take (length (r .elements) - 1) (r .elements) ++ ((id, words (ws ++ (units s ∷ []))) ∷ [])) r ∷ []))))
+    (ifText s (become (take k rs ++ (holding (take (length (r .elements) - 1) (r .elements) ++ ((id, words (ws ++ (textOf s ∷ []))) ∷ [])) r ∷ []))))
 
 module _ (p : Product) (n m a : ℕ) (s d : List ℕ) where
   pub word-none : m ≡ 0 → MakesAs p lastOf n m a (addWord s) d (Outcome.No Fault.Last 0) d
