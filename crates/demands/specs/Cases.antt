@@ -9,9 +9,6 @@ use lib.Ieee.Fits.{and-l, and-r}
 use borrow.Author.Tests.{not-true}
 use Rattle.format.specs.declared.Fault.the-variants as Fault
 use Rattle.format.specs.Fault.{codeOf, placeOf, Said}
-use Rattle.format.specs.Format.{shift, mapped, andThen, pick, whole}
-use Rattle.format.specs.ReadWrite.{pairRead, judgeOf, judge, home, numberRead, within, bit, value, eachRead, weighed}
-use Rattle.format.specs.Combinators.{pair, seq, _then_, judged, via, atStart, nothing, number, count, fixed, bytes, flag, each, counted, listed, sized, measured}
 use Rattle.civil.specs.declared.Civil.{Civil}
 use Rattle.civil.specs.Calendar.{leap, monthDays, monthsDays, yearsDays, Valid, dayOf}
 use Rattle.date.specs.Double.{negative, size, day, accepted}
@@ -19,16 +16,12 @@ use Rattle.moment.specs.declared.Moment.{Moment}
 use Rattle.moment.specs.declared.Moment.the-variants as Moment
 use Rattle.moment.specs.Moment.{origin, dayIn, secondIn, momentSays, Says}
 use Rattle.moment.specs.Laws.Moment.{says-at, says-no}
-use Rattle.text.specs.Length.{longLength, lengthBehind}
-use Rattle.text.specs.Text.{stringLength, stringOf}
 use Rattle.kind.specs.declared.Role.the-variants.{Condition}
 use Rattle.kind.specs.declared.Kind.{Kind}
 use Rattle.kind.specs.declared.Kind.the-variants.{Simple}
-use Rattle.kind.specs.Kinds.{editionOf, has, rowIn, offered, rowOf, kindValues, rowBy, kindOf}
-use Rattle.element.specs.Data.{oneZero, simpleData}
-use Rattle.element.specs.Element.{identifier, element}
-use Rattle.rule.specs.Rule.{className, classHead, firstHead, head, placed, body, fromUnknown4, fromUnknown2, fields, rule}
-use Rattle.deck.specs.Deck.{mark, header, deck, readAs, readBy, readDeck, answered}
+use Rattle.kind.specs.Kinds.{kindValues, kindOf}
+use Rattle.deck.specs.Deck.{readDeck, answered}
+use Rattle.deck.specs.Laws.Deck.{computingDecks}
 use Rattle.deck.specs.Sample.{sample}
 
 -- a number by its whole days and its further quarters of a day: whether it is negative, and its quarters
@@ -157,6 +150,6 @@ module _ (x : Bool × ℕ) (bits : ℕ) where
       ((e, eqb→eq (size bits * 4) (x .1 * day) (b .0)), (Moment.No Fault.Date 0, (says-no bits (not-true (accepted bits) (is-true (not (accepted bits)) (b .1 .0))), refl)))
 
 pub cases-hold : AllAnswer cases
-unfolding sample mark header deck whole readAs readBy readDeck className classHead firstHead head placed body fromUnknown4 fromUnknown2 fields rule identifier element oneZero simpleData editionOf has rowIn offered rowOf rowBy kindOf longLength lengthBehind stringLength stringOf sized measured weighed each eachRead counted listed number numberRead within count fixed bytes flag bit value pair pairRead seq _then_ judged judgeOf judge via home atStart nothing shift mapped andThen pick day leap monthsDays yearsDays dayOf origin dayIn secondIn
+unfolding computingDecks sample day leap monthsDays yearsDays dayOf origin dayIn secondIn
 cases-hold =
     (refl, (refl, (refl, (refl, (refl, (refl, (refl, (refl, (refl, (refl, (refl, (date-on (plus 2 2) _ 1900 1 1 noon refl tt, (date-on (minus 1 1) _ 1899 12 29 six refl tt, (date-on (minus 0 1) _ 1899 12 30 six refl tt, (date-on (minus 657434 0) _ 100 1 1 0 refl tt, (date-on (plus 2958465 2) _ 9999 12 31 noon refl tt, (date-no (minus 657435 0) _ refl tt, (date-no (plus 2958466 0) _ refl tt, tt))))))))))))))))))

@@ -17,7 +17,7 @@ use Rattle.format.specs.ReadWrite.{pairWrite, spelt, bit, eachWrite}
 use Rattle.format.specs.Laws.ReadWrite.{length-spelt}
 use Rattle.format.specs.Combinators.{pair, via, judged, seq, _then_, number, fixed}
 use Rattle.format.specs.Row.{total, startIn}
-use Rattle.text.specs.Laws.Text.{string-long}
+use Rattle.text.specs.Laws.Written.{string-long}
 use Rattle.kind.specs.declared.Product.{Product}
 use Rattle.kind.specs.declared.Edition.{Edition}
 use Rattle.kind.specs.declared.Edition.the-variants as Edition

@@ -40,6 +40,8 @@ pub record Format (A : Type 0) : Type 1 where
   pub forth : (s : List ℕ) (x : A) (n : ℕ) → Bytes s → read s ≡ got x n → Found write Fit s x n
   -- a reading ends, or is refused, within the list
   pub inside : (s : List ℕ) → endOf (read s) ≤ length s
+  -- what is written are bytes
+  pub spells : (x : A) → Bytes (write x)
 
 -- ---- how answers are put together
 

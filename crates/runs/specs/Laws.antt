@@ -1,4 +1,3 @@
-pub mod Spelt
 pub mod Fits
 pub mod Both
 pub mod Given

@@ -5,7 +5,8 @@ ghost use mathlib.Core.Path.{_≡_};
 ghost use Rattle.format.specs.Laws.Seen.{seen, itself, none};
 ghost use Rattle.text.specs.Length.{longLength};
 ghost use Rattle.text.specs.Text.{lengthOf, stringLength, string, word};
-ghost use Rattle.text.specs.Laws.Text.{textSeen, inForm, endRead, refusedAt, lengthSize};
+ghost use Rattle.text.specs.Laws.Seen.{textSeen, inForm, endRead, refusedAt};
+ghost use Rattle.text.specs.Laws.Written.{lengthSize};
 
 // The forms of a String: its length is one byte, or FF and two.
 pub enum Form {

@@ -1,15 +1,20 @@
 -- Views: document 01, "Tables and views".
-use Prim.Native.Nat.{ℕ, _+_}
+use Prim.Native.Nat.{ℕ, _+_, _*_}
 use mathlib.Core.Path.{_≡_}
 use mathlib.Core.List.{List, [], _∷_}
-use lib.ListN.{take, drop}
+use lib.ListN.{length, take, drop}
 use Rattle.format.specs.declared.Outcome.{Outcome}
 use Rattle.format.specs.declared.Outcome.the-variants as Outcome
 use Rattle.format.specs.Fault.{Said}
 use Rattle.text.specs.declared.Form.{Form}
 use Rattle.text.specs.declared.Form.the-variants.{Short, Long}
+use Rattle.text.specs.Text.{Text, unitsFrom}
 use Rattle.view.specs.declared.View.{View}
 use Rattle.view.specs.declared.View.the-variants.{At, No}
+
+-- the view of a String that starts at a place: "exactly the bytes of its units"
+abbrev pub textView : ℕ → Text → View
+textView at t = At (unitsFrom at t) (2 * length (t .units)) (t .form)
 
 -- "a refused view is the empty part at the start"
 abbrev pub shown : View → List ℕ → List ℕ

@@ -15,7 +15,7 @@ use Rattle.format.specs.Laws.ReadWrite.{within-is}
 use Rattle.format.specs.Combinators.{pair, judged, via, seq, number, count, fixed, flag}
 use Rattle.text.specs.Length.{longLength, inLong, lengthBehind}
 use Rattle.text.specs.Text.{stringLength, stringOf, unit, string, wordOf, word}
-use Rattle.text.specs.Laws.Text.{length-most}
+use Rattle.text.specs.Laws.Written.{length-most}
 use Rattle.date.specs.Date.{date}
 use Rattle.kind.specs.declared.Product.{Product}
 use Rattle.kind.specs.declared.Kind.{Kind}

@@ -18,7 +18,8 @@ use Rattle.format.specs.Laws.Skip.{Skipped, skip-is, skip-never, nth}
 use Rattle.text.specs.declared.StringRead.{StringRead}
 use Rattle.text.specs.declared.StringRead.the-variants as StringRead
 use Rattle.text.specs.Text.{Text, lengthOf, unit, string, word}
-use Rattle.text.specs.Laws.Text.{textSeen, text-back, word-length}
+use Rattle.text.specs.Laws.Seen.{textSeen, text-back}
+use Rattle.text.specs.Laws.Written.{word-length}
 use Rattle.kind.specs.declared.Kind.{Kind}
 use Rattle.element.specs.Data.{wordsOf, wordData, dataOf}
 use Rattle.element.specs.Laws.Data.{Other, words-none, list-parts}

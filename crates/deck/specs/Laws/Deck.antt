@@ -32,6 +32,7 @@ use Rattle.kind.specs.declared.Edition.{Edition}
 use Rattle.kind.specs.declared.Edition.the-variants as Edition
 use Rattle.kind.specs.Kinds.{editionOf}
 use Rattle.rule.specs.Rule.{Rule, rule, elementsIn}
+use Rattle.rule.specs.Laws.Rule.{computingRules}
 use Rattle.scan.specs.declared.Scan.{Scan}
 use Rattle.scan.specs.declared.Scan.the-variants as Scan
 use Rattle.scan.specs.Scan.{scanSays}
@@ -198,3 +199,8 @@ deck-row p s rs f e =
     let h = behind s 0 (header .write (length rs)) (eachWrite (rule p) 0 rs) e in
     let z : 0 + length (header .write (length rs)) ≡ 7 = omega (arith, header-length (length rs)) in
     record { fit = f .0 .1 .1; is = rw z at h ∙ sym (append-nil (eachWrite (rule p) 0 rs)) }
+
+-- ---- where a case is computed
+unfoldable pub computingDecks : Type 0
+unfolding computingRules mark header deck readAs readBy readDeck
+computingDecks = Unit {0}

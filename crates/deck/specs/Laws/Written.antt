@@ -5,6 +5,7 @@ use native.Mathlib.Omega.{arith}
 use mathlib.Core.Path.{_≡_, refl, sym, ap, _∙_}
 use mathlib.Core.List.{List, _∷_, _++_, append-assoc}
 use lib.ListN.{length, take, length-append}
+use Rattle.format.specs.Format.{Bytes}
 use Rattle.format.specs.ReadWrite.{pairWrite, value, spelt, eachWrite}
 use Rattle.format.specs.Laws.ReadWrite.{length-spelt, each-append, each-alike}
 use Rattle.format.specs.Combinators.{pair, seq, _then_, judged, via, number, count, fixed, bytes, each, counted}
@@ -58,6 +59,10 @@ deck-is p rs = rw (rules-as p 0 rs) (simp append-assoc)
 pub written-as : (p : Product) (rs : List Rule) → deck p .write rs ≡ written rs
 unfolding written
 written-as p rs = deck-is p rs ∙ sym (deck-is Studio rs)
+
+pub written-bytes : (rs : List Rule) → Bytes (written rs)
+unfolding written
+written-bytes rs = deck Studio .spells rs
 
 -- what stands before rule k of a deck of n rules, the rules before it being xs
 unfoldable pub before : ℕ → List Rule → List ℕ

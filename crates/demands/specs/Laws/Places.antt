@@ -13,7 +13,7 @@ use Rattle.format.specs.Laws.Written.{behind, Stands, Held, Row}
 use Rattle.format.specs.Row.{startIn}
 use Rattle.format.specs.Laws.Skip.{nth}
 use Rattle.text.specs.Text.{Text, lengthOf, stringLength, unit, string, word, unitsFrom}
-use Rattle.text.specs.Laws.Text.{string-written, string-fits, string-long, word-written, word-fits}
+use Rattle.text.specs.Laws.Written.{string-written, string-fits, string-long, word-written, word-fits}
 use Rattle.kind.specs.declared.Product.{Product}
 use Rattle.kind.specs.declared.Role.the-variants.{Condition}
 use Rattle.kind.specs.declared.Kind.{Kind}

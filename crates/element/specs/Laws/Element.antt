@@ -17,7 +17,8 @@ use Rattle.kind.specs.declared.Kind.the-variants as Kind
 use Rattle.kind.specs.declared.Row.{Row}
 use Rattle.kind.specs.declared.Row.the-variants.{Is, No}
 use Rattle.kind.specs.Kinds.{kinds, rowIn, rowOf, offered}
-use Rattle.kind.specs.Laws.Kinds.{offered-is, lacking, foreign}
+use Rattle.kind.specs.Laws.Kinds.{offered-is, lacking, foreign, computingKinds}
+use Rattle.text.specs.Laws.Written.{computingTexts}
 use Rattle.element.specs.Data.{dataOf, simpleData, oneZero}
 use Rattle.element.specs.Element.{isRow, dataBy, identifier, Element, element}
 
@@ -76,3 +77,8 @@ module _ (p : Product) (s : List ℕ) (at : ℕ) {a : Read} where
 -- there is no element past the end
 pub element-past : (p : Product) (s : List ℕ) (at : ℕ) → length s < at → Read.No at Fault.Cut ≡ seen named (element p) s at
 element-past p s at h = element-cut p s at (number-no 4 s at (omega arith)) refl
+
+-- ---- where a case is computed
+unfoldable pub computingElements : Type 0
+unfolding computingTexts computingKinds oneZero simpleData identifier element
+computingElements = Unit {0}

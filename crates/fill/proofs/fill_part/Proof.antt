@@ -1,7 +1,8 @@
 use native.Mathlib.Omega.{arith}
 use mathlib.Core.Path.{ap, _∙_}
 use Rattle.text.specs.Text.{lengthOf, string}
-use Rattle.text.specs.Laws.Text.{endRead, end-is, text-ends, length-three}
+use Rattle.text.specs.Laws.Seen.{endRead, end-is, text-ends}
+use Rattle.text.specs.Laws.Written.{length-three}
 use Rattle.format.specs.Laws.Back.{seen-stops}
 use Rattle.format.specs.Laws.Seen.{none}
 use Rattle.fill.specs.Laws.Fill.{under-no, under-off, under-is, under-got}

@@ -15,7 +15,8 @@ use Rattle.format.specs.Row.{total, startIn}
 use Rattle.format.specs.Laws.Written.{Stands, Row}
 use Rattle.format.specs.Laws.Back.{stands-room, back-got, back-no}
 use Rattle.format.specs.Laws.Skip.{start-first, start-end, start-more, Nth, nth}
-use Rattle.text.specs.Laws.Text.{textSeen, text-unlike, text-back, text-told, lengthSize, length-size, string-fits}
+use Rattle.text.specs.Laws.Seen.{textSeen, text-unlike, text-back, text-told}
+use Rattle.text.specs.Laws.Written.{lengthSize, length-size, string-fits}
 use Rattle.kind.specs.declared.Product.{Product}
 use Rattle.text.specs.declared.Form.{Form}
 use Rattle.text.specs.declared.StringRead.{StringRead}

@@ -46,6 +46,10 @@ module _ {A B : Type 0} (a : Format A) (b : A → Format B) where
   unfolding pairRead
   pair-inside s = end-then s (a .read s) _ (a .inside s) (λ x n. rw end-mapped (b x .inside (drop n s)))
 
+  pub pair-spells : (p : A × B) → Bytes (pairWrite a b p)
+  unfolding pairWrite
+  pair-spells p = bytes-append (a .write (p .0)) (b (p .0) .write (p .1)) (a .spells (p .0)) (b (p .0) .spells (p .1))
+
 -- ---- judged
 module _ {A : Type 0} (ok : A → Bool) (c : Fault) (a : Format A) where
   pub judged-back : (x : A) (t : List ℕ) → JudgedFit ok a x → judgeOf ok c (a .read (a .write x ++ t)) ≡ got x (length (a .write x))
@@ -229,11 +233,6 @@ within-is low high n e = go (leb low n) refl e
 
 -- ---- rows
 module _ {A : Type 0} (a : ℕ → Format A) where
-  pub bytes-each : (i : ℕ) (xs : List A) → ((j : ℕ) (x : A) → Bytes (a j .write x)) → Bytes (eachWrite a i xs)
-  unfolding eachWrite Bytes
-  bytes-each i [] f = tt
-  bytes-each i (x ∷ xs) f = bytes-append (a i .write x) (eachWrite a (i + 1) xs) (f i x) (bytes-each (i + 1) xs f)
-
   pub each-back : (i k : ℕ) (xs : List A) (t : List ℕ) → EachFit a i k xs → eachRead a i k (eachWrite a i xs ++ t) ≡ got xs (length (eachWrite a i xs))
   unfolding eachRead eachWrite AllFit andThen mapped shift
   each-back i zero [] t f = refl
@@ -261,6 +260,11 @@ module _ {A : Type 0} (a : ℕ → Format A) where
   unfolding eachRead endOf
   each-inside i zero s = omega arith
   each-inside i (suc k) s = end-then s (a i .read s) _ (a i .inside s) (λ x n. rw end-mapped (each-inside (i + 1) k (drop n s)))
+
+  pub each-spells : (i : ℕ) (xs : List A) → Bytes (eachWrite a i xs)
+  unfolding eachWrite Bytes
+  each-spells i [] = tt
+  each-spells i (x ∷ xs) = bytes-append (a i .write x) (eachWrite a (i + 1) xs) (a i .spells x) (each-spells (i + 1) xs)
 
 -- ---- rows that are written
 pub each-append : {A : Type 0} (a : ℕ → Format A) (i : ℕ) (xs ys : List A) → eachWrite a i (xs ++ ys) ≡ eachWrite a i xs ++ eachWrite a (i + length xs) ys

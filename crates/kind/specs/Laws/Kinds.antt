@@ -77,3 +77,8 @@ module _ (edition id : ℕ) {e : Edition} where
   pub kind-none : e ≡ editionOf edition → e ≡ Edition.Unknown → kindSays (No Fault.Edition 0) ≡ kindOf edition id
   unfolding kindOf rowBy
   kind-none f h = rw (← f, h)
+
+-- ---- where a case is computed
+unfoldable pub computingKinds : Type 0
+unfolding editionOf has rowIn offered rowOf rowBy kindOf
+computingKinds = Unit {0}

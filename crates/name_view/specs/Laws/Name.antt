@@ -10,7 +10,7 @@ use Rattle.format.specs.declared.Read.the-variants as Read
 use Rattle.format.specs.Laws.Back.{Where, stands-room}
 use Rattle.text.specs.declared.StringRead.{StringRead}
 use Rattle.text.specs.Text.{lengthOf, string}
-use Rattle.text.specs.Laws.Text.{textSeen, text-back}
+use Rattle.text.specs.Laws.Seen.{textSeen, text-back}
 use Rattle.rule.specs.Rule.{rule}
 use Rattle.rule.specs.Laws.Places.{rule-parts}
 use Rattle.steps.specs.Laws.Steps.{Reached}

@@ -12,7 +12,7 @@ use Rattle.format.specs.Format.{Bytes, pick}
 use Rattle.format.specs.ReadWrite.{spelt, eachWrite}
 use Rattle.format.specs.Laws.ReadWrite.{length-spelt}
 use Rattle.format.specs.Combinators.{number}
-use Rattle.text.specs.Laws.Text.{string-written, length-255, length-other}
+use Rattle.text.specs.Laws.Written.{string-written, length-255, length-other}
 use Rattle.text.specs.Text.{stringLength, string, formOf}
 use Rattle.buffer.specs.Laid.{putIn}
 use Rattle.buffer.specs.Laws.Laid.{put-out, put-both}

@@ -20,8 +20,8 @@ use Rattle.format.specs.Laws.Back.{seen-fits}
 use Rattle.format.specs.Laws.Seen.{seen, itself, none, unlike, via-is, pair-stop, then-stop, then-go, number-no}
 use Rattle.kind.specs.declared.Product.{Product}
 use Rattle.element.specs.Element.{Element, element}
-use Rattle.element.specs.Laws.Element.{named}
-use Rattle.rule.specs.Rule.{Rule, separator, className, placed, body, fromUnknown4, fromUnknown2, fields, rule, elementsIn}
+use Rattle.element.specs.Laws.Element.{named, computingElements}
+use Rattle.rule.specs.Rule.{Rule, separator, className, classHead, firstHead, head, placed, body, fromUnknown4, fromUnknown2, fields, rule, elementsIn}
 
 -- an element that fits, fits at every place of a rule
 pub placed-fits : (p : Product) (j : ℕ) (x : Element) → element p .Fit x → placed p j .Fit x
@@ -94,3 +94,8 @@ rule-fits p i r f = within-is 1 64 (elementsIn r) (f .0 .1 .1 .1 .1 .1 .1 .1 .0 
 
 pub rule-small : (p : Product) (i : ℕ) (s : List ℕ) (at : ℕ) {r : Read} {v m : ℕ} → Bytes s → r ≡ seen elementsIn (rule p i) s at → r ≡ Got m v → v ≤ 64
 rule-small p i s at bs e h = let o = seen-fits elementsIn (rule p i) s at bs e h in rw (o .1 .1) (rule-fits p i (o .0) (o .1 .0) .1)
+
+-- ---- where a case is computed
+unfoldable pub computingRules : Type 0
+unfolding computingElements className classHead firstHead head placed body fromUnknown4 fromUnknown2 fields rule
+computingRules = Unit {0}

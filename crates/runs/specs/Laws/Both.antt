@@ -16,8 +16,7 @@ use Rattle.rule.specs.Laws.Rule.{placed-fits, fits-placed}
 use Rattle.deck.specs.Deck.{deck, readAs}
 use Rattle.deck.specs.Laws.Deck.{deck-small, read-writes-back, written-reads-back}
 use Rattle.deck.specs.Written.{written}
-use Rattle.deck.specs.Laws.Written.{written-as}
-use Rattle.runs.specs.Laws.Spelt.{written-bytes}
+use Rattle.deck.specs.Laws.Written.{written-as, written-bytes}
 use Rattle.runs.specs.Laws.Fits.{Every, Fits, deck-fits, fits-deck}
 
 module _ (p : Product) where

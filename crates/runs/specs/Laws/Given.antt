@@ -13,7 +13,7 @@ use Rattle.format.specs.Laws.Format.{apart, mapped-got}
 use Rattle.format.specs.ReadWrite.{AllFit}
 use Rattle.format.specs.Laws.ReadWrite.{within-fits, all-append}
 use Rattle.format.specs.Combinators.{pair, judged, via, number, count, each, counted, listed}
-use Rattle.text.specs.Laws.Text.{length-fits, fits-string, fits-word}
+use Rattle.text.specs.Laws.Written.{length-fits, fits-string, fits-word}
 use Rattle.text.specs.Text.{Text, unit, string, word}
 use Rattle.kind.specs.declared.Product.{Product}
 use Rattle.kind.specs.declared.Kind.{Kind}

@@ -1,4 +1,4 @@
-use Rattle.text.specs.Laws.Text.{length-none, length-short, length-long}
+use Rattle.text.specs.Laws.Seen.{length-none, length-short, length-long}
 use borrow.Author.Needs.{needs}
 use Rattle.text.proofs.length_at.Statement.{statement}
 use Rattle.text.proofs.length_at.Tie as tie

@@ -1,6 +1,6 @@
 use native.Mathlib.Omega.{arith}
 use Rattle.format.specs.Laws.Format.{bytes-all}
-use Rattle.text.specs.Laws.Text.{string-stop, string-is, string-cut, length-few, length-ends}
+use Rattle.text.specs.Laws.Seen.{string-stop, string-is, string-cut, length-few, length-ends}
 use borrow.Author.Needs.{needs}
 use Rattle.text.proofs.string_at.Statement.{statement}
 use Rattle.text.proofs.string_at.Tie as tie

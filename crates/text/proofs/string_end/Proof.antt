@@ -1,4 +1,4 @@
-use Rattle.text.specs.Laws.Text.{end-is}
+use Rattle.text.specs.Laws.Seen.{end-is}
 use borrow.Author.Needs.{needs}
 use Rattle.text.proofs.string_end.Statement.{statement}
 use Rattle.text.proofs.string_end.Tie as tie

@@ -1,4 +1,4 @@
-use Rattle.text.specs.Laws.Text.{word-stop, word-go}
+use Rattle.text.specs.Laws.Seen.{word-stop, word-go}
 use borrow.Author.Needs.{needs}
 use Rattle.text.proofs.word_at.Statement.{statement}
 use Rattle.text.proofs.word_at.Tie as tie

@@ -1,7 +1,7 @@
 use native.Mathlib.Omega.{arith}
 use mathlib.Core.Path.{ap, _∙_}
 use Rattle.format.specs.Laws.Fault.{endSays}
-use Rattle.text.specs.Laws.Text.{endRead}
+use Rattle.text.specs.Laws.Seen.{endRead}
 use Rattle.view.specs.Laws.View.{view-hands, units-none, units-past, units-odd, units-are}
 use borrow.Author.Needs.{needs}
 use Rattle.view.proofs.units_of.Statement.{statement}

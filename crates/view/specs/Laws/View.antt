@@ -18,10 +18,10 @@ use Rattle.text.specs.declared.Form.the-variants.{Short}
 use Rattle.text.specs.declared.StringRead.{StringRead}
 use Rattle.text.specs.declared.StringRead.the-variants as StringRead
 use Rattle.text.specs.Text.{Text, string, unitsFrom}
-use Rattle.text.specs.Laws.Text.{string-long}
+use Rattle.text.specs.Laws.Written.{string-long}
 use Rattle.view.specs.declared.View.{View}
 use Rattle.view.specs.declared.View.the-variants.{At, No}
-use Rattle.view.specs.View.{shown, shownFrom, PartOf, viewSays}
+use Rattle.view.specs.View.{textView, shown, shownFrom, PartOf, viewSays}
 
 -- a refusal as that of a view
 unfoldable pub noView : Outcome → View
@@ -61,7 +61,7 @@ module _ (len : ℕ) {t : StringRead} where
 
   -- the units of a String that starts at q
   pub units-of : {v : View} (q : ℕ) (x : Text) → v ≡ unitsOf len t → t ≡ StringRead.Got (q + length (string .write x)) (x .form) (length (x .units)) → q + length (string .write x) ≤ len
-      → v ≡ At (unitsFrom q x) (2 * length (x .units)) (x .form)
+      → v ≡ textView q x
   units-of q x w e l =
       let m = string-long x in
       let z : q + length (string .write x) - 2 * length (x .units) ≡ unitsFrom q x = omega arith in

@@ -18,7 +18,7 @@ use Rattle.format.specs.ReadWrite.{spelt, eachWrite}
 use Rattle.format.specs.Laws.ReadWrite.{length-spelt, each-append}
 use Rattle.format.specs.Combinators.{judged, number}
 use Rattle.format.specs.Laws.Back.{Where}
-use Rattle.text.specs.Laws.Text.{word-written}
+use Rattle.text.specs.Laws.Written.{word-written}
 use Rattle.text.specs.Text.{string, word, Text, unit}
 use Rattle.kind.specs.declared.Product.{Product}
 use Rattle.kind.specs.declared.Product.the-variants.{Studio}

@@ -1,24 +1,21 @@
--- Laws of ../Text.antt: how the code reads a String and a word, and how many bytes they are written in. They hold for a unit of any width.
+-- What the code says of a String, of its length and of a word, and the laws by which it reads them. They hold for a unit of any width.
 use Prim.Native.Nat.{ℕ, _+_, _-_, _*_, _<_, _≤_}
-use native.Mathlib.Nat.{add-assoc, add-zero, mul-zero, mul-suc}
+use native.Mathlib.Nat.{add-assoc, add-zero}
 use native.Mathlib.Omega.{arith}
 use native.Mathlib.Decide.{decLt}
 use mathlib.Core.Path.{_≡_, refl, sym, ap, _∙_}
-use mathlib.Core.Bool.{Bool, true, false}
-use mathlib.Core.List.{List, [], _∷_, _++_, append-nil}
-use lib.Dec.{leb, eqb, lit<, lit≤}
-use lib.ListN.{length, drop, length-append}
+use mathlib.Core.List.{List}
+use lib.ListN.{length, drop}
 use lib.Seq.{drop-drop}
-use borrow.Author.Tests.{leb-true, le-leb, eqb-false, eq-eqb, ne-eqb}
+use borrow.Author.Tests.{eq-eqb, ne-eqb}
 use Rattle.format.specs.declared.Fault.{Fault}
 use Rattle.format.specs.declared.Fault.the-variants as Fault
 use Rattle.format.specs.declared.Read.{Read}
 use Rattle.format.specs.declared.Read.the-variants.{Got, No}
 use Rattle.format.specs.Format.{Answer, got, refused, shift, mapped, andThen, pick, Bytes, Format}
-use Rattle.format.specs.Laws.Format.{bytes-drop, bytes-append}
-use Rattle.format.specs.ReadWrite.{pairRead, pairWrite, home, spelt, eachWrite, AllFit}
-use Rattle.format.specs.Laws.ReadWrite.{length-spelt, bytes-spelt}
-use Rattle.format.specs.Combinators.{pair, via, judged, seq, atStart, nothing, _then_, number, fixed, each}
+use Rattle.format.specs.Laws.Format.{bytes-drop}
+use Rattle.format.specs.ReadWrite.{pairRead, home}
+use Rattle.format.specs.Combinators.{pair, via, seq, atStart, nothing, _then_, number, fixed, each}
 use Rattle.format.specs.Laws.Seen.{told, seen, itself, none, told-got, told-no, Faulty, number-no}
 use Rattle.format.specs.Laws.Written.{Stands}
 use Rattle.format.specs.Laws.Back.{seen-ends}
@@ -27,10 +24,11 @@ use Rattle.text.specs.declared.Form.{Form}
 use Rattle.text.specs.declared.Form.the-variants.{Short, Long}
 use Rattle.text.specs.declared.StringRead.{StringRead}
 use Rattle.text.specs.declared.StringRead.the-variants as StringRead
-use Rattle.text.specs.Length.{Length, longLength, inLong, inShort, lengthBehind}
-use Rattle.text.specs.Text.{Text, lengthOf, stringLength, stringOf, wordOf, unit, string, formOf}
+use Rattle.text.specs.Length.{Length, longLength, lengthBehind}
+use Rattle.text.specs.Text.{Text, lengthOf, stringLength, stringOf, wordOf}
+use Rattle.text.specs.Laws.Written.{length-most}
 
--- ---- what the code says of a String, of its length or of a word: the place past it, the form and the number of units
+-- the place past it, its form and the number of its units
 unfoldable pub textTold : {A : Type 0} → ℕ → (A → Length) → Answer A → StringRead
 textTold at f (got x n) = StringRead.Got (at + n) (f x .0) (f x .1)
 textTold at f (refused c p) = StringRead.No (at + p) c
@@ -112,12 +110,6 @@ module _ (s : List ℕ) (at : ℕ) {r : Read} (e : r ≡ seen itself (number 1) 
         go m z (got v j) = rw (z, add-assoc)
         go m z (refused c j) = rw (z, add-assoc)
 
--- at most 255 units
-pub length-most : (l : Length) → stringLength .Fit l → l .1 ≤ 255
-unfolding stringLength lengthBehind longLength via pair judged number pick
-length-most (Short, n) f = let h = f .0 .0 in omega arith
-length-most (Long, n) f = leb-true n 255 (f .0 .1 .0 .1)
-
 -- ---- a String: l is what its length was read as
 
 abbrev pub refusedAt : ℕ → StringRead → StringRead
@@ -187,119 +179,3 @@ module _ (unit : Format ℕ) (s : List ℕ) (at : ℕ) {z : Read} (e : z ≡ see
       go : (m : ℕ) → p ≡ at + m → (q : Answer Text) → textTold p lengthOf q ≡ textTold at lengthOf (mapped {A = Unit {0} × Text} (λ y. y .1) (shift m (mapped (λ t. (tt, t)) q)))
       go m k (got t j) = rw (k, add-assoc)
       go m k (refused c j) = rw (k, add-assoc)
-
--- ---- how a String is written: its length, then its units
-
--- the bytes of its length
-abbrev pub lengthSize : Form → ℕ
-lengthSize Short = 1
-lengthSize Long = 3
-
-pub length-three : (form : Form) → lengthSize form ≤ 3
-length-three Short = lit≤ tt
-length-three Long = lit≤ tt
-
-pub length-size : (l : Length) → stringLength .Fit l → length (stringLength .write l) ≡ lengthSize (l .0)
-unfolding stringLength lengthBehind longLength via pair pairWrite judged nothing number pick
-length-size (Short, n) f = go (eqb n 255) (f .0 .1)
-  where
-    go : (b : Bool) → pick b inLong (inShort n) .Fit (Short, n) → length (spelt 1 n ++ pick b inLong (inShort n) .write (Short, n)) ≡ 1
-    go true h = absurd (let z : 3 ≡ 1 = ap (λ (l : Length). lengthSize (l .0)) (h .1) in omega arith)
-    go false h = omega (arith, length-append (spelt 1 n) [], length-spelt 1 n)
-length-size (Long, n) f = omega (arith, length-append (spelt 1 255) (spelt 2 n), length-spelt 1 255, length-spelt 2 n)
-
--- up to 254 units fit the short form, up to 255 the long one
-pub fits-short : (n : ℕ) → n ≤ 254 → stringLength .Fit (Short, n)
-unfolding stringLength lengthBehind via pair nothing number pick
-fits-short n h = rw (ne-eqb n 255 (λ e. omega arith)) (((omega arith, (tt, refl)), refl))
-
-pub short-few : (n : ℕ) → stringLength .Fit (Short, n) → n ≤ 254
-unfolding stringLength lengthBehind longLength via pair nothing number pick
-short-few n f = go (eqb n 255) refl (f .0 .1)
-  where
-    go : (b : Bool) → eqb n 255 ≡ b → pick b inLong (inShort n) .Fit (Short, n) → n ≤ 254
-    go true e h = absurd (let z : 3 ≡ 1 = ap (λ (l : Length). lengthSize (l .0)) (h .1) in omega arith)
-    go false e h = let l = f .0 .0 in let k : (n ≡ 255 → ⊥) = eqb-false n 255 e in omega arith
-
-pub fits-long : (n : ℕ) → n ≤ 255 → stringLength .Fit (Long, n)
-unfolding stringLength lengthBehind longLength via pair judged number pick
-fits-long n h = (((lit< tt, (((omega arith, le-leb n 255 h)), refl)), refl))
-
--- the shortest form
-form-long : (n : ℕ) → n ≡ 255 → formOf n ≡ Long
-unfolding formOf pick
-form-long n e = rw e
-
-form-short : (n : ℕ) → (n ≡ 255 → ⊥) → formOf n ≡ Short
-unfolding formOf pick
-form-short n h = rw (ne-eqb n 255 h)
-
-pub length-255 : (n : ℕ) → n ≡ 255 → stringLength .write (formOf n, n) ≡ spelt 3 0x00FFFF
-unfolding stringLength lengthBehind longLength via pair pairWrite judged number pick spelt
-length-255 n e = rw (form-long n e, e)
-
-pub length-other : (n : ℕ) → (n ≡ 255 → ⊥) → stringLength .write (formOf n, n) ≡ spelt 1 n
-unfolding stringLength lengthBehind via pair pairWrite nothing number pick
-length-other n h = rw (form-short n h, ne-eqb n 255 h) (append-nil (spelt 1 n))
-
-pub length-fits : (n : ℕ) → n ≤ 255 → stringLength .Fit (formOf n, n)
-length-fits n h =
-    elim (decLt n 255) [
-      | yes l ↦ rw (form-short n (λ e. omega arith)) (fits-short n (omega arith))
-      | no l ↦ rw (form-long n (omega arith)) (fits-long n h)
-    ]
-
--- every length is written in bytes
-pub length-bytes : (l : Length) → Bytes (stringLength .write l)
-unfolding stringLength lengthBehind longLength via pair pairWrite judged nothing number pick Bytes
-length-bytes (Short, n) = bytes-append (spelt 1 n) _ (bytes-spelt 1 n) (go (eqb n 255))
-  where
-    go : (b : Bool) → Bytes (pick b inLong (inShort n) .write (Short, n))
-    go true = bytes-spelt 2 n
-    go false = tt
-length-bytes (Long, n) = bytes-append (spelt 1 255) (spelt 2 n) (bytes-spelt 1 255) (bytes-spelt 2 n)
-
-module _ (unit : Format ℕ) where
-  pub string-written : (t : Text) → stringOf unit .write t ≡ stringLength .write (lengthOf t) ++ eachWrite (λ j. unit) 0 (t .units)
-  unfolding stringOf atStart via pair pairWrite each
-  string-written t = refl
-
-  -- which Strings can be written
-  pub string-fits : (t : Text) → stringOf unit .Fit t → stringLength .Fit (lengthOf t) × AllFit (λ j. unit) 0 (t .units)
-  unfolding stringOf atStart via pair each
-  string-fits t f = (f .0 .0, f .0 .1 .1)
-
-  pub fits-string : (t : Text) → stringLength .Fit (lengthOf t) → AllFit (λ j. unit) 0 (t .units) → stringOf unit .Fit t
-  unfolding stringOf atStart via pair each
-  fits-string t f g = ((f, (refl, g)), refl)
-
-  pub word-fits : (t : Text) → wordOf unit .Fit t → stringOf unit .Fit t
-  unfolding wordOf _then_ seq via pair
-  word-fits t f = f .0 .1
-
-  pub fits-word : (t : Text) → stringOf unit .Fit t → wordOf unit .Fit t
-  unfolding wordOf _then_ seq via pair fixed judged number
-  fits-word t f = ((((lit< tt, refl), refl), f), refl)
-
-  -- a word's 4 zero bytes before it
-  pub word-written : (t : Text) → wordOf unit .write t ≡ spelt 4 0 ++ stringOf unit .write t
-  unfolding wordOf fixed _then_ seq via judged pair pairWrite number
-  word-written t = refl
-
-  pub word-length : (t : Text) → length (wordOf unit .write t) ≡ 4 + length (stringOf unit .write t)
-  word-length t = omega (arith, ap length (word-written t), length-append (spelt 4 0) (stringOf unit .write t), length-spelt 4 0)
-
-  -- units of w bytes each
-  module _ (w : ℕ) (wide : (u : ℕ) → length (unit .write u) ≡ w) where
-    units-long : (i : ℕ) (us : List ℕ) → length (eachWrite (λ j. unit) i us) ≡ w * length us
-    unfolding eachWrite
-    units-long i [] = omega (arith, mul-zero w)
-    units-long i (u ∷ us) = omega (arith, length-append (unit .write u) (eachWrite (λ j. unit) (i + 1) us), wide u, units-long (i + 1) us, mul-suc w (length us))
-
-    pub string-length : (t : Text) → length (stringOf unit .write t) ≡ length (stringLength .write (lengthOf t)) + w * length (t .units)
-    string-length t = omega (arith, ap length (string-written t), length-append (stringLength .write (lengthOf t)) (eachWrite (λ j. unit) 0 (t .units)), units-long 0 (t .units))
-
--- those of a deck
-pub string-long : (t : Text) → length (string .write t) ≡ length (stringLength .write (lengthOf t)) + 2 * length (t .units)
-unfolding number
-string-long t = string-length unit 2 (length-spelt 2) t
