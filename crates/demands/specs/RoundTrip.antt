@@ -7,7 +7,7 @@ use mathlib.Core.List.{List, [], append-nil}
 use lib.Dec.{T, leb, eqb}
 use lib.ListN.{length, drop}
 use lib.Seq.{drop-length}
-use lib.Ieee.{Float, binary64, ofBits, toBits, fits}
+use lib.Ieee.{Float, binary64, toBits, fits}
 use lib.Ieee.Bits.{ofBits-toBits, toBits-lt}
 use borrow.Author.Tests.{le-leb, eq-eqb, eqb-true}
 use Rattle.format.specs.declared.Fault.{Fault}
@@ -20,7 +20,6 @@ use Rattle.format.specs.Combinators.{pair, seq, _then_, judged, via, number, fi
 use Rattle.format.specs.Laws.Combinators.{then-fit}
 use Rattle.date.specs.Double.{accepted}
 use Rattle.date.specs.Date.{date}
-use Rattle.date.proofs.Floats.{date-no-nan, bits-back}
 use Rattle.kind.specs.declared.Edition.{Edition}
 use Rattle.kind.specs.declared.Edition.the-variants as Edition
 use Rattle.kind.specs.declared.Kind.{Kind}
@@ -28,7 +27,7 @@ use Rattle.kind.specs.declared.Kind.the-variants as Kind
 use Rattle.kind.specs.declared.Row.{Row}
 use Rattle.kind.specs.declared.Row.the-variants as Row
 use Rattle.kind.specs.Kinds.{editionOf, rowOf}
-use Rattle.element.specs.Data.{Data, plain, sizes, span, Limit, wordsOf, sizesOf, spanOf, oneZero, markerData, simpleData, sizeData, limit, dateData, dataOf}
+use Rattle.element.specs.Data.{Data, plain, sizes, span, wordsOf, sizesOf, spanOf, oneZero, markerData, simpleData, sizeData, limit, dateData, dataOf}
 use Rattle.value.specs.declared.Span.{Span}
 use Rattle.value.specs.declared.Value.{Value}
 use Rattle.value.specs.declared.Value.the-variants as Value

@@ -12,7 +12,7 @@ use Rattle.format.specs.Fault.{placeOf}
 use Rattle.format.specs.Format.{Answer, got, refused, endOf, whole, pick, Format, Bytes}
 use Rattle.format.specs.Laws.Format.{end-mapped}
 use Rattle.format.specs.Laws.ReadWrite.{within-is}
-use Rattle.format.specs.Combinators.{pair, judged, via, seq, number, count, fixed, flag}
+use Rattle.format.specs.Combinators.{pair, judged, seq, number, count, fixed, flag}
 use Rattle.text.specs.Length.{longLength, inLong, lengthBehind}
 use Rattle.text.specs.Text.{stringLength, stringOf, unit, string, wordOf, word}
 use Rattle.text.specs.Laws.Written.{length-most}

@@ -38,6 +38,10 @@ unfolding For
 for-refused P f e = rw e at f
 
 module _ (P : Fault → Type 0) where
+  pub for-no : (A : Type 0) {c : Fault} (q : ℕ) → P c → For {A = A} P (refused c q)
+  unfolding For
+  for-no A q h = h
+
   pub for-mapped : {A B : Type 0} (f : A → B) (q : Answer A) → For P q → For P (mapped f q)
   unfolding For mapped
   for-mapped f (got x n) h = tt
@@ -47,6 +51,11 @@ module _ (P : Fault → Type 0) where
   unfolding For shift
   for-shift k (got x n) h = tt
   for-shift k (refused c o) h = h
+
+  pub for-home : {A : Type 0} (q : Answer A) → For P q → For P (home q)
+  unfolding For home
+  for-home (got x n) h = tt
+  for-home (refused c o) h = h
 
   pub for-then : {A B : Type 0} (q : Answer A) (k : A → ℕ → Answer B) → For P q → ((x : A) (n : ℕ) → For P (k x n)) → For P (andThen q k)
   unfolding For andThen
@@ -89,12 +98,8 @@ module _ (P : Fault → Type 0) where
   gives-via a to from same f s = for-mapped to (a .read s) (f s)
 
   gives-start : {A : Type 0} (a : Format A) → Gives P a → Gives P (atStart a)
-  unfolding Gives For atStart home
-  gives-start {A} a f s = go (a .read s) (f s)
-    where
-      go : (q : Answer A) → For P q → For P (home q)
-      go (got x n) w = tt
-      go (refused c o) w = w
+  unfolding Gives atStart
+  gives-start a f s = for-home (a .read s) (f s)
 
   gives-pair : {A B : Type 0} (a : Format A) (b : A → Format B) → Gives P a → ((x : A) → Gives P (b x)) → Gives P (pair a b)
   unfolding Gives pair pairRead
@@ -129,35 +134,35 @@ module _ (P : Fault → Type 0) where
       go (got x n) w = tt
       go (refused c o) w = w
 
+  pub gives-number : P Fault.Cut → (k : ℕ) → Gives P (number k)
+  unfolding Gives For number numberRead pick
+  gives-number cut k s = go (leb k (length s))
+    where
+      go : (b : Bool) → For P (pick b (got (value (take k s)) k) (refused Fault.Cut 0))
+      go true = tt
+      go false = cut
+
   -- ---- what data give
   module _ (cut : P Fault.Cut) (many : P Fault.Count) (form : P Fault.Form) (wrong : P Fault.Field) (day : P Fault.Date) where
-    gives-number : (k : ℕ) → Gives P (number k)
-    unfolding Gives For number numberRead pick
-    gives-number k s = go (leb k (length s))
-      where
-        go : (b : Bool) → For P (pick b (got (value (take k s)) k) (refused Fault.Cut 0))
-        go true = tt
-        go false = cut
-
     gives-fixed : (k v : ℕ) (c : Fault) → P c → Gives P (fixed k v c)
     unfolding fixed
-    gives-fixed k v c h = gives-via _ _ _ _ (gives-judged _ c (number k) h (gives-number k))
+    gives-fixed k v c h = gives-via _ _ _ _ (gives-judged _ c (number k) h (gives-number cut k))
 
     pub gives-count : (k low high : ℕ) → Gives P (count k low high)
     unfolding count
-    gives-count k low high = gives-judged _ Fault.Count (number k) many (gives-number k)
+    gives-count k low high = gives-judged _ Fault.Count (number k) many (gives-number cut k)
 
     gives-flag : Gives P flag
     unfolding flag
-    gives-flag = gives-via _ _ _ _ (gives-judged _ Fault.Field (number 4) wrong (gives-number 4))
+    gives-flag = gives-via _ _ _ _ (gives-judged _ Fault.Field (number 4) wrong (gives-number cut 4))
 
     gives-length : Gives P stringLength
     unfolding stringLength lengthBehind longLength
-    gives-length = gives-via _ _ _ _ (gives-pair (number 1) _ (gives-number 1) (λ b. gives-pick (eqb b 255) inLong _ (gives-via _ _ _ _ (gives-judged _ Fault.Form (number 2) form (gives-number 2))) (gives-via _ _ _ _ gives-nothing)))
+    gives-length = gives-via _ _ _ _ (gives-pair (number 1) _ (gives-number cut 1) (λ b. gives-pick (eqb b 255) inLong _ (gives-via _ _ _ _ (gives-judged _ Fault.Form (number 2) form (gives-number cut 2))) (gives-via _ _ _ _ gives-nothing)))
 
     gives-string : Gives P string
     unfolding stringOf
-    gives-string = gives-start _ (gives-via _ _ _ _ (gives-pair stringLength _ gives-length (λ l. gives-each (λ i. unit) (λ i. gives-number 2) 0 (l .1))))
+    gives-string = gives-start _ (gives-via _ _ _ _ (gives-pair stringLength _ gives-length (λ l. gives-each (λ i. unit) (λ i. gives-number cut 2) 0 (l .1))))
 
     gives-word : Gives P word
     unfolding wordOf
@@ -169,14 +174,14 @@ module _ (P : Fault → Type 0) where
 
     gives-limit : Gives P limit
     unfolding limit seq date
-    gives-limit = gives-via _ _ _ _ (gives-pair flag _ gives-flag (λ x. gives-then _ _ (gives-fixed 4 0 Fault.Field wrong) (gives-judged _ Fault.Date (number 8) day (gives-number 8))))
+    gives-limit = gives-via _ _ _ _ (gives-pair flag _ gives-flag (λ x. gives-then _ _ (gives-fixed 4 0 Fault.Field wrong) (gives-judged _ Fault.Date (number 8) day (gives-number cut 8))))
 
     pub gives-data : (k : Kind) → Gives P (dataOf k)
     unfolding markerData simpleData wordData sizeData dateData seq
     gives-data Kind.Marker = gives-via _ _ _ _ (gives-then oneZero _ gives-one-zero (gives-fixed 4 1 Fault.Field wrong))
     gives-data (Kind.Simple r) = gives-via _ _ _ _ gives-one-zero
     gives-data Kind.WordList = gives-via _ _ _ _ (gives-listed _ word (gives-count 4 0 64) gives-word)
-    gives-data (Kind.Size r) = gives-via _ _ _ _ (gives-then oneZero _ gives-one-zero (gives-pair (number 4) _ (gives-number 4) (λ x. gives-number 4)))
+    gives-data (Kind.Size r) = gives-via _ _ _ _ (gives-then oneZero _ gives-one-zero (gives-pair (number 4) _ (gives-number cut 4) (λ x. gives-number cut 4)))
     gives-data (Kind.Dates r) = gives-via _ _ _ _ (gives-then oneZero _ gives-one-zero (gives-pair limit _ gives-limit (λ x. gives-limit)))
 
     -- ---- what a rule gives
@@ -187,7 +192,7 @@ module _ (P : Fault → Type 0) where
 
       gives-element : (p : Product) → Gives P (element p)
       unfolding element identifier
-      gives-element p = gives-pair _ _ (gives-judged _ Fault.Foreign _ foreign (gives-judged _ Fault.Unknown (number 4) unknown (gives-number 4))) (λ id. gives-by (rowIn kinds id))
+      gives-element p = gives-pair _ _ (gives-judged _ Fault.Foreign _ foreign (gives-judged _ Fault.Unknown (number 4) unknown (gives-number cut 4))) (λ id. gives-by (rowIn kinds id))
 
       gives-placed : (p : Product) (j : ℕ) → Gives P (placed p j)
       unfolding placed
@@ -203,10 +208,10 @@ module _ (P : Fault → Type 0) where
 
       gives-sized : {A : Type 0} (a : Format A) → Gives P a → Gives P (sized Fault.Size a)
       unfolding sized
-      gives-sized a f = gives-via _ _ _ _ (gives-judged _ Fault.Size _ size (gives-pair (number 4) _ (gives-number 4) (λ n. gives-measured a f)))
+      gives-sized a f = gives-via _ _ _ _ (gives-judged _ Fault.Size _ size (gives-pair (number 4) _ (gives-number cut 4) (λ n. gives-measured a f)))
 
       pub gives-rule : (p : Product) (i : ℕ) → Gives P (rule p i)
       unfolding rule fields fromUnknown2 fromUnknown4 seq
       gives-rule p i =
-          let n = gives-number 4 in
+          let n = gives-number cut 4 in
           gives-via _ _ _ _ (gives-pair _ _ n (λ a. gives-pair _ _ gives-string (λ b. gives-pair _ _ gives-flag (λ c. gives-pair _ _ n (λ d. gives-pair _ _ n (λ e. gives-pair _ _ n (λ f. gives-pair _ _ n (λ g. gives-sized _ (gives-body p i)))))))))

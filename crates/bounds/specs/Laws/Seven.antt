@@ -1,7 +1,6 @@
 -- Document 02, W5: "7 remains for more than 255 units".
 use Prim.Native.Nat.{ℕ, _+_, _*_, _<_, _≤_}
 use native.Mathlib.Omega.{arith}
-use native.Mathlib.Decide.{decLt}
 use mathlib.Core.Path.{_≡_, refl, sym, _∙_}
 use mathlib.Core.Bool.{Bool, true, false}
 use mathlib.Core.List.{List, [], _∷_}
@@ -10,14 +9,13 @@ use lib.ListN.{length, drop}
 use borrow.Author.Tests.{le-leb, lt-leb, leb-false, eqb-true}
 use Rattle.format.specs.declared.Fault.{Fault}
 use Rattle.format.specs.declared.Fault.the-variants as Fault
-use Rattle.format.specs.Format.{Answer, got, refused, shift, mapped, andThen, pick, Format}
+use Rattle.format.specs.Format.{Answer, refused, shift, mapped, andThen, pick, Format}
 use Rattle.format.specs.ReadWrite.{pairRead, judge, judgeOf, home, numberRead, value}
 use Rattle.format.specs.Combinators.{pair, via, judged, atStart, nothing, number, each}
-use Rattle.format.specs.Laws.Rows.{row-there, row-cut}
 use Rattle.text.specs.declared.Form.the-variants.{Long}
 use Rattle.text.specs.Length.{Length, longLength, inLong, inShort, lengthBehind}
 use Rattle.text.specs.Text.{Text, stringLength, stringOf, unit, string}
-use Rattle.bounds.specs.Laws.Faults.{For, for-refused, for-mapped, for-shift, for-then}
+use Rattle.bounds.specs.Laws.Faults.{For, Gives, for-refused, for-no, for-mapped, for-shift, for-home, for-then, gives-number, gives-each}
 
 -- a String that says, in the long form, that it has more than 255 units
 pub record Over (s : List ℕ) : Type 0 where
@@ -40,27 +38,13 @@ over-refused unit s o =
 abbrev Only : List ℕ → Fault → Type 0
 Only s c = c ≡ Fault.Form → Over s
 
-only-cut : (A : Type 0) (s : List ℕ) (q : ℕ) → For {A = A} (Only s) (refused Fault.Cut q)
-unfolding For
-only-cut A s q e = absurd (let z : _≡_ {A = ℕ} 0 1 = cc in omega arith)
-
-only-home : {A : Type 0} (s : List ℕ) (q : Answer A) → For (Only s) q → For (Only s) (home q)
-unfolding For home
-only-home s (got x n) h = tt
-only-home s (refused c p) h = h
-
-only-row : (w n : ℕ) (s t : List ℕ) → For (Only s) (each (λ i. number w) 0 n .read t)
-unfolding For each
-only-row w n s t =
-    elim (decLt (length t) (w * n)) [
-      | yes l ↦ rw (row-cut w 0 n t l .is) (only-cut (List ℕ) s 0)
-      | no l ↦ rw (row-there w 0 n t (omega arith) .is) tt
-    ]
+only-cut : (s : List ℕ) → Only s Fault.Cut
+only-cut s e = absurd (let z : _≡_ {A = ℕ} 0 1 = cc in omega arith)
 
 only-long : (t : List ℕ) → For (Only (255 ∷ t)) (longLength .read t)
 unfolding For longLength judged judgeOf judge number numberRead value pick
-only-long [] = only-cut ℕ (255 ∷ []) 0
-only-long (a ∷ []) = only-cut ℕ (255 ∷ a ∷ []) 0
+only-long [] = only-cut (255 ∷ [])
+only-long (a ∷ []) = only-cut (255 ∷ a ∷ [])
 only-long (a ∷ (b ∷ u)) =
     let two : 2 ≤ length (a ∷ b ∷ u) = omega arith in
     rw (le-leb 2 (length (a ∷ b ∷ u)) two) (go (leb (a + 256 * (b + 256 * 0)) 255) refl)
@@ -76,15 +60,17 @@ only-behind y t false e = tt
 
 only-length : (s : List ℕ) → For (Only s) (stringLength .read s)
 unfolding stringLength lengthBehind via pair pairRead number numberRead value mapped shift andThen pick
-only-length [] = only-cut Length [] 0
+only-length [] = for-no (Only []) Length 0 (only-cut [])
 only-length (y ∷ t) =
     let one : 1 ≤ length (y ∷ t) = omega arith in
     let z : y + 256 * 0 ≡ y = omega arith in
     rw (le-leb 1 (length (y ∷ t)) one, z) (for-mapped (Only (y ∷ t)) _ _ (for-shift (Only (y ∷ t)) 1 _ (for-mapped (Only (y ∷ t)) _ _ (only-behind y t (eqb y 255) refl))))
 
 only-string : (s : List ℕ) → For (Only s) (string .read s)
-unfolding stringOf atStart via pair pairRead
-only-string s = only-home s _ (for-mapped (Only s) _ _ (for-then (Only s) (stringLength .read s) _ (only-length s) (λ l n. for-mapped (Only s) _ _ (only-row 2 (l .1) s (drop n s)))))
+unfolding Gives stringOf atStart via pair pairRead
+only-string s =
+    let row : (n : ℕ) → Gives (Only s) (each (λ i. unit) 0 n) = λ n. gives-each (Only s) (λ i. unit) (λ i. gives-number (Only s) (only-cut s) 2) 0 n in
+    for-home (Only s) _ (for-mapped (Only s) _ _ (for-then (Only s) (stringLength .read s) _ (only-length s) (λ l n. for-mapped (Only s) _ _ (row (l .1) (drop n s)))))
 
 -- at the String, and of no other
 pub seven-is-over : (s : List ℕ) (q : ℕ) → string .read s ≡ refused Fault.Form q → Over s × (q ≡ 0)

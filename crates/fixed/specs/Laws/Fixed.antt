@@ -4,7 +4,7 @@ use native.Mathlib.Nat.{mod-eq-of-lt}
 use native.Mathlib.Omega.{arith}
 use mathlib.Core.Path.{_≡_, refl, ap, _∙_}
 use mathlib.Core.Bool.{Bool}
-use mathlib.Core.List.{List, [], _∷_}
+use mathlib.Core.List.{List}
 use lib.Dec.{eqb}
 use Rattle.format.specs.declared.Fault.{Fault}
 use Rattle.format.specs.declared.Fault.the-variants as Fault
@@ -18,7 +18,6 @@ use Rattle.format.specs.Combinators.{number}
 use Rattle.format.specs.Laws.Seen.{seen, itself}
 use Rattle.format.specs.Laws.Written.{Held}
 use Rattle.format.specs.Laws.Back.{Where, back-got, back-no}
-use Rattle.kind.specs.declared.Product.{Product}
 use Rattle.rule.specs.Rule.{Rule}
 use Rattle.rule.specs.Laws.Places.{rule-parts}
 use Rattle.steps.specs.Laws.Steps.{nameRead, name-end, name-got, name-never, Reached}

@@ -51,8 +51,3 @@ stands-room a s at {x} {u} b = omega (arith, length-drop at s, ap length (b .is)
 -- whatever value stands at a place, v is f of it
 unfoldable pub Where : {A W : Type 0} → Format A → List ℕ → ℕ → (A → W) → W → Type 0
 Where {A} a s at f v = (x : A) → Held a s at x → v ≡ f x
-
--- none stands there
-pub where-none : {A W : Type 0} (g : A → ℕ) (a : Format A) (s : List ℕ) (at : ℕ) (f : A → W) (v : W) {r : Read} {c : Fault} {q : ℕ} → r ≡ seen g a s at → r ≡ No q c → Where a s at f v
-unfolding Where
-where-none g a s at f v e h x b = back-no g a s at (b .1) e h

@@ -1,5 +1,5 @@
 use native.Mathlib.Omega.{arith}
-use mathlib.Core.Path.{refl, sym, ap, _∙_}
+use mathlib.Core.Path.{refl, sym, ap}
 use Rattle.moment.specs.Moment.{momentSays, Says}
 use Rattle.lent_moment.specs.Laws.Narrow.{moment-narrow}
 use Rattle.lent.specs.Laws.Lent.{lent-row, lent-no}

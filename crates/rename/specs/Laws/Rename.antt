@@ -24,7 +24,7 @@ use Rattle.buffer.specs.Laws.Laid.{opened}
 use Rattle.buffer.specs.Laws.Holds.{Holds, holds-start, holds-open, holds-fill}
 use Rattle.spot.specs.declared.Spot.{Spot}
 use Rattle.spot.specs.declared.Spot.the-variants as Spot
-use Rattle.steps.specs.Laws.Steps.{Sound, Here, here, nameEnd}
+use Rattle.steps.specs.Laws.Steps.{Here, here, nameEnd}
 use Rattle.given.specs.Given.{isText, textOf}
 use Rattle.plan.specs.Edit.{become, rename, edited, renamed}
 use Rattle.plan.specs.Laws.Found.{Makes, Does, found, ground, Ground}

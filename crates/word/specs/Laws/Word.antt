@@ -16,7 +16,6 @@ use Rattle.format.specs.Laws.Fault.{endSays}
 use Rattle.format.specs.Format.{Bytes}
 use Rattle.format.specs.ReadWrite.{spelt, eachWrite}
 use Rattle.format.specs.Laws.ReadWrite.{length-spelt, each-append}
-use Rattle.format.specs.Combinators.{judged, number}
 use Rattle.format.specs.Laws.Back.{Where}
 use Rattle.text.specs.Laws.Written.{word-written}
 use Rattle.text.specs.Text.{string, word, Text, unit}
