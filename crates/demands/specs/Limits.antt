@@ -1,16 +1,15 @@
 -- How many elements a deck can have: behind its 7 bytes of header each takes at least 10, so they are at most 5,999.
 use Prim.Native.Nat.{ℕ, _+_, _*_, _≤_, _<_}
 use native.Mathlib.Omega.{arith}
-use mathlib.Core.Path.{_≡_, ap, _∙_}
+use mathlib.Core.Path.{_≡_, ap}
 use mathlib.Core.List.{List, [], _∷_, _++_}
 use lib.ListN.{length, length-append}
 use borrow.Author.Tests.{ne-eqb}
 use Rattle.format.specs.Format.{got, Bytes, pick}
-use Rattle.format.specs.ReadWrite.{pairWrite, eachWrite, spelt, bit}
-use Rattle.format.specs.Laws.ReadWrite.{length-spelt}
-use Rattle.format.specs.Combinators.{pair, seq, _then_, judged, via, number, fixed, flag, count, each, counted, listed, measured, sized}
+use Rattle.format.specs.ReadWrite.{pairWrite, eachWrite, spelt}
+use Rattle.format.specs.Laws.ReadWrite.{length-before}
+use Rattle.format.specs.Combinators.{pair, seq, _then_, judged, via, number, fixed, flag, count, each, counted, listed}
 use Rattle.format.specs.Row.{total}
-use Rattle.text.specs.Text.{string}
 use Rattle.date.specs.Date.{date}
 use Rattle.kind.specs.declared.Product.{Product}
 use Rattle.kind.specs.declared.Role.the-variants as Role
@@ -21,8 +20,9 @@ use Rattle.kind.specs.declared.Row.the-variants as Row
 use Rattle.kind.specs.Kinds.{rowIn, kinds}
 use Rattle.element.specs.Data.{Data, oneZero, markerData, simpleData, wordData, sizeData, limit, dateData, dataOf}
 use Rattle.element.specs.Element.{Element, element, identifier, dataBy}
-use Rattle.rule.specs.Rule.{Rule, rule, fields, fromUnknown2, fromUnknown4, body, head, placed, elementsIn}
+use Rattle.rule.specs.Rule.{Rule, rule, body, head, placed, elementsIn}
 use Rattle.rule.specs.Places.{ruleBytes, elementsBytes}
+use Rattle.rule.specs.Laws.Parts.{body-size, rule-long}
 use Rattle.deck.specs.Deck.{header, deck, readAs}
 use Rattle.deck.specs.Laws.Deck.{read-writes-back, header-length}
 
@@ -38,18 +38,14 @@ by-least : (r : Row) (d : Data) → 4 ≤ length (dataBy r .write d)
 by-least (Row.Is k) d = data-least k d
 by-least (Row.No c q) d = data-least (Kind.Simple Role.Condition) d
 
--- behind k bytes
-long : (k n : ℕ) (xs : List ℕ) → length (spelt k n ++ xs) ≡ k + length xs
-long k n xs = length-append (spelt k n) xs ∙ ap (λ (m : ℕ). m + length xs) (length-spelt k n)
-
 element-least : (p : Product) (x : Element) → 8 ≤ length (element p .write x)
 unfolding element identifier pair pairWrite judged number
-element-least p x = omega (arith, long 4 (x .0) (dataBy (rowIn kinds (x .0)) .write (x .1)), by-least (rowIn kinds (x .0)) (x .1))
+element-least p x = omega (arith, length-before 4 (x .0) (dataBy (rowIn kinds (x .0)) .write (x .1)), by-least (rowIn kinds (x .0)) (x .1))
 
 -- with 8001 before it
 later-least : (p : Product) (j : ℕ) (x : Element) → 0 < j → 10 ≤ length (placed p j .write x)
 unfolding placed pick fixed _then_ seq pair pairWrite via judged number
-later-least p j x h = rw (ne-eqb j 0 (λ e. omega arith)) (omega (arith, long 2 0x8001 (element p .write x), element-least p x))
+later-least p j x h = rw (ne-eqb j 0 (λ e. omega arith)) (omega (arith, length-before 2 0x8001 (element p .write x), element-least p x))
 
 rest-least : (p : Product) (j : ℕ) (xs : List Element) → 0 < j → 10 * length xs ≤ length (eachWrite (placed p) j xs)
 unfolding eachWrite
@@ -66,20 +62,10 @@ unfolding body counted count each _then_ seq pair pairWrite via judged number
 body-least p i xs =
     let h = head i .write tt in
     let e = eachWrite (placed p) 0 xs in
-    omega (arith, long 2 (length xs) (h ++ e), length-append h e, elements-least p xs)
+    omega (arith, length-before 2 (length xs) (h ++ e), length-append h e, elements-least p xs)
 
 rule-least : (p : Product) (i : ℕ) (r : Rule) → 10 * elementsIn r ≤ ruleBytes p i r
-unfolding rule fields fromUnknown2 fromUnknown4 sized measured flag via seq pair pairWrite judged number
-rule-least p i r =
-    let n = string .write (r .name) in
-    let w8 = body p i .write (r .elements) in
-    let w7 = spelt 4 (length w8) ++ w8 in
-    let w6 = spelt 4 (r .unknown5) ++ w7 in
-    let w5 = spelt 4 (r .unknown4) ++ w6 in
-    let w4 = spelt 4 (r .unknown3) ++ w5 in
-    let w3 = spelt 4 (r .unknown2) ++ w4 in
-    let w2 = spelt 4 (bit (r .on)) ++ w3 in
-    omega (arith, body-least p i (r .elements), long 4 (r .signature) (n ++ w2), length-append n w2, long 4 (bit (r .on)) w3, long 4 (r .unknown2) w4, long 4 (r .unknown3) w5, long 4 (r .unknown4) w6, long 4 (r .unknown5) w7, long 4 (length w8) w8)
+rule-least p i r = omega (arith, rule-long p i r, body-size p i (r .elements), body-least p i (r .elements))
 
 rules-least : (p : Product) (i : ℕ) (rs : List Rule) → 10 * total elementsIn rs ≤ length (eachWrite (rule p) i rs)
 unfolding eachWrite total

@@ -15,7 +15,7 @@ use Rattle.format.specs.declared.Read.the-variants as Read
 use Rattle.format.specs.Laws.Fault.{endSays, inGiven}
 use Rattle.format.specs.Format.{refused, Bytes}
 use Rattle.format.specs.ReadWrite.{spelt, eachWrite}
-use Rattle.format.specs.Laws.ReadWrite.{length-spelt, each-append}
+use Rattle.format.specs.Laws.ReadWrite.{length-spelt, length-before, each-append}
 use Rattle.format.specs.Combinators.{number}
 use Rattle.format.specs.Laws.Seen.{seen, itself, told, none, told-got, told-no}
 use Rattle.format.specs.Laws.Written.{Stands}
@@ -49,7 +49,7 @@ laterBytes id s = spelt 2 0x8001 ++ (spelt 4 id ++ s)
 
 pub later-long : (id : ℕ) (s : List ℕ) → length (laterBytes id s) ≡ 6 + length s
 unfolding laterBytes
-later-long id s = omega (arith, length-append (spelt 2 0x8001) (spelt 4 id ++ s), length-append (spelt 4 id) s, length-spelt 2 0x8001, length-spelt 4 id)
+later-long id s = omega (arith, length-before 2 0x8001 (spelt 4 id ++ s), length-before 4 id s)
 
 -- as the code puts them
 pub later-put : (d : List ℕ) (at id : ℕ) (s : List ℕ) {y z : List ℕ} → y ≡ putIn d at (spelt 2 0x8001) → z ≡ putIn y (at + 2) (spelt 4 id ++ s) → at + 6 + length s ≤ length d → z ≡ putIn d at (laterBytes id s)
@@ -133,7 +133,7 @@ module _ (n m e c id : ℕ) (s d : List ℕ) where
       let F = front (h .r) in
       let I = inner (h .r .elements) in
       let E = laterBytes id s in
-      omega (arith, length-append B (F ++ (spelt 4 S ++ (spelt 2 C ++ (headBytes k ++ (I ++ E))))), length-append F (spelt 4 S ++ (spelt 2 C ++ (headBytes k ++ (I ++ E)))), length-append (spelt 4 S) (spelt 2 C ++ (headBytes k ++ (I ++ E))), length-append (spelt 2 C) (headBytes k ++ (I ++ E)), length-append (headBytes k) (I ++ E), length-append I E, length-append B F, length-spelt 4 S, length-spelt 2 C, later-long id s, front-ends n d h z w g, size-ends n d h z w g)
+      omega (arith, length-append B (F ++ (spelt 4 S ++ (spelt 2 C ++ (headBytes k ++ (I ++ E))))), length-append F (spelt 4 S ++ (spelt 2 C ++ (headBytes k ++ (I ++ E)))), length-before 4 S (spelt 2 C ++ (headBytes k ++ (I ++ E))), length-before 2 C (headBytes k ++ (I ++ E)), length-append (headBytes k) (I ++ E), length-append I E, length-append B F, later-long id s, front-ends n d h z w g, size-ends n d h z w g)
 
   -- never, of a sound deck
   pub grow-short : (r : Outcome) (d′ : List ℕ) → n + 6 + length s < e + 24 → Grows n m e c id s d r d′

@@ -16,7 +16,7 @@ use Rattle.format.specs.declared.Read.the-variants as Read
 use Rattle.format.specs.Laws.Fault.{endSays, inGiven}
 use Rattle.format.specs.Format.{refused, Bytes}
 use Rattle.format.specs.ReadWrite.{spelt, bit, eachWrite}
-use Rattle.format.specs.Laws.ReadWrite.{length-spelt}
+use Rattle.format.specs.Laws.ReadWrite.{length-spelt, length-before}
 use Rattle.format.specs.Laws.Seen.{told, none, told-got, told-no}
 use Rattle.text.specs.Text.{string}
 use Rattle.kind.specs.declared.Product.{Product}
@@ -62,12 +62,12 @@ kept-size f = simp (length-append, length-spelt)
 
 front-size : (name : List ℕ) (f : Fields) → length (frontBytes name f) ≡ 24 + length (textBytes name)
 unfolding frontBytes
-front-size name f = omega (arith, length-append (spelt 4 (f .signature)) (textBytes name ++ keptBytes f), length-append (textBytes name) (keptBytes f), length-spelt 4 (f .signature), kept-size f)
+front-size name f = omega (arith, length-before 4 (f .signature) (textBytes name ++ keptBytes f), length-append (textBytes name) (keptBytes f), kept-size f)
 
 back-size : (i id : ℕ) (s : List ℕ) → length (backBytes i id s) ≡ 10 + length (headBytes i) + length s
 unfolding backBytes
 back-size i id s =
-    omega (arith, length-append (spelt 4 (6 + length (headBytes i) + length s)) (spelt 2 1 ++ (headBytes i ++ (spelt 4 id ++ s))), length-append (spelt 2 1) (headBytes i ++ (spelt 4 id ++ s)), length-append (headBytes i) (spelt 4 id ++ s), length-append (spelt 4 id) s, length-spelt 4 (6 + length (headBytes i) + length s), length-spelt 2 1, length-spelt 4 id)
+    omega (arith, length-before 4 (6 + length (headBytes i) + length s) (spelt 2 1 ++ (headBytes i ++ (spelt 4 id ++ s))), length-before 2 1 (headBytes i ++ (spelt 4 id ++ s)), length-append (headBytes i) (spelt 4 id ++ s), length-before 4 id s)
 
 -- they are the parts of the rule as it is written
 front-is : (name : List ℕ) (f : Fields) (x : Element) → textBytes name ≡ string .write (textOf name) → front (newRule (textOf name) f x) ≡ frontBytes name f
@@ -77,7 +77,7 @@ front-is name f x e = rw (← e)
 back-is : (i id : ℕ) (s : List ℕ) (x : Element) → placed Studio 0 .write x ≡ spelt 4 id ++ s → back i (x ∷ []) ≡ backBytes i id s
 unfolding back sizeOf inner eachWrite backBytes
 back-is i id s x e =
-    let l : 2 + (length (headBytes i) + length (spelt 4 id ++ s)) ≡ 6 + length (headBytes i) + length s = omega (arith, length-append (spelt 4 id) s, length-spelt 4 id) in
+    let l : 2 + (length (headBytes i) + length (spelt 4 id ++ s)) ≡ 6 + length (headBytes i) + length s = omega (arith, length-before 4 id s) in
     rw (append-nil, e, l)
 
 -- ---- as the code puts them
@@ -174,7 +174,7 @@ module _ (n m : ℕ) (name : List ℕ) (f : Fields) (id : ℕ) (s d : List ℕ) 
   added-long rs o w =
       let R = newBytes m name f id s in
       let q = rules 0 rs in
-      omega (arith, length-append opening (spelt 2 (m + 1) ++ (q ++ R)), length-append (spelt 2 (m + 1)) (q ++ R), length-append q R, length-spelt 2 (m + 1), rule-size m name f id s, ap length (deck-parts rs o), length-append opening (spelt 2 (length rs) ++ q), length-append (spelt 2 (length rs)) q, length-spelt 2 (length rs), length-take-le n d w)
+      omega (arith, length-append opening (spelt 2 (m + 1) ++ (q ++ R)), length-before 2 (m + 1) (q ++ R), length-append q R, rule-size m name f id s, ap length (deck-parts rs o), length-append opening (spelt 2 (length rs) ++ q), length-before 2 (length rs) q, length-take-le n d w)
 
   added-holds : {p : Product} (rs : List Rule) {at : ℕ} {y₁ y₂ y₃ : List ℕ} → Sound p (take n d) rs → n ≤ length d → at ≡ n + 24 + length (textBytes name) → n + 34 + length (textBytes name) + length (headBytes m) + length s ≤ length d
       → y₁ ≡ putIn d n (frontBytes name f) → y₂ ≡ putIn y₁ at (backBytes m id s) → y₃ ≡ putIn y₂ 5 (spelt 2 (m + 1))

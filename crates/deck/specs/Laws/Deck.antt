@@ -5,7 +5,7 @@ use native.Mathlib.Omega.{arith}
 use mathlib.Core.Path.{_≡_, refl, sym, ap, ap₂, _∙_}
 use mathlib.Core.Bool.{Bool, true, false}
 use mathlib.Core.List.{List, [], _++_, append-nil}
-use lib.ListN.{length, drop, length-append}
+use lib.ListN.{length, drop}
 use lib.Dec.{leb, eqb}
 use lib.Seq.{drop-length}
 use borrow.Author.Tests.{le-leb, lt-leb, leb-true, eq-eqb, ne-eqb, eqb-true}
@@ -18,7 +18,7 @@ use Rattle.format.specs.Laws.Fault.{endSays}
 use Rattle.format.specs.Format.{Answer, got, refused, shift, mapped, andThen, endOf, Bytes, pick, whole}
 use Rattle.format.specs.Laws.Format.{apart}
 use Rattle.format.specs.ReadWrite.{pairRead, pairWrite, value, spelt, eachWrite}
-use Rattle.format.specs.Laws.ReadWrite.{within-is, length-spelt}
+use Rattle.format.specs.Laws.ReadWrite.{within-is, length-spelt, length-before}
 use Rattle.format.specs.Combinators.{pair, seq, judged, via, _then_, number, count, fixed, bytes, each, counted}
 use Rattle.format.specs.Laws.Combinators.{then-fit}
 use Rattle.format.specs.Laws.Written.{behind, Row}
@@ -191,7 +191,7 @@ place-small edition s bs = by (editionOf edition)
 -- ---- a sound deck is its header, 7 bytes, and the rules behind it
 pub header-length : (n : ℕ) → length (header .write n) ≡ 7
 unfolding header bytes mark fixed count via judged _then_ seq pair pairWrite number
-header-length n = omega (arith, length-append (spelt 3 (value mark)) (spelt 2 1 ++ spelt 2 n), length-append (spelt 2 1) (spelt 2 n), length-spelt 3 (value mark), length-spelt 2 1, length-spelt 2 n)
+header-length n = omega (arith, length-before 3 (value mark) (spelt 2 1 ++ spelt 2 n), length-before 2 1 (spelt 2 n), length-spelt 2 n)
 
 pub deck-row : (p : Product) (s : List ℕ) (rs : List Rule) → deck p .Fit rs → s ≡ deck p .write rs → Row (rule p) s 0 7 rs []
 unfolding deck counted via pair pairWrite each

@@ -7,7 +7,7 @@ use mathlib.Core.List.{List, _∷_, _++_, append-assoc}
 use lib.ListN.{length, take, length-append}
 use Rattle.format.specs.Format.{Bytes}
 use Rattle.format.specs.ReadWrite.{pairWrite, value, spelt, eachWrite}
-use Rattle.format.specs.Laws.ReadWrite.{length-spelt, each-append, each-alike}
+use Rattle.format.specs.Laws.ReadWrite.{length-spelt, length-before, each-append, each-alike}
 use Rattle.format.specs.Combinators.{pair, seq, _then_, judged, via, number, count, fixed, bytes, each, counted}
 use Rattle.format.specs.Row.{startIn}
 use Rattle.kind.specs.declared.Product.{Product}
@@ -49,7 +49,7 @@ opening = spelt 3 (value mark) ++ spelt 2 1
 
 pub opening-long : length opening ≡ 5
 unfolding opening
-opening-long = omega (arith, length-append (spelt 3 (value mark)) (spelt 2 1), length-spelt 3 (value mark), length-spelt 2 1)
+opening-long = omega (arith, length-before 3 (value mark) (spelt 2 1), length-spelt 2 1)
 
 deck-is : (p : Product) (rs : List Rule) → deck p .write rs ≡ opening ++ (spelt 2 (length rs) ++ rules 0 rs)
 unfolding deck counted header bytes mark fixed count via judged _then_ seq pair pairWrite number each opening
@@ -74,7 +74,7 @@ written-is xs ys = deck-is Studio (xs ++ ys) ∙ rw (rules-append 0 xs ys, zero-
 
 pub before-long : (n : ℕ) (xs : List Rule) → length (before n xs) ≡ 7 + length (rules 0 xs)
 unfolding before
-before-long n xs = omega (arith, length-append opening (spelt 2 n ++ rules 0 xs), length-append (spelt 2 n) (rules 0 xs), opening-long, length-spelt 2 n)
+before-long n xs = omega (arith, length-append opening (spelt 2 n ++ rules 0 xs), length-before 2 n (rules 0 xs), opening-long)
 
 pub start-is : (rs : List Rule) (k : ℕ) → startOf rs k ≡ 7 + length (rules 0 (take k rs))
 unfolding startOf startIn rules

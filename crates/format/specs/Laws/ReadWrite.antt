@@ -126,6 +126,10 @@ unfolding spelt
 length-spelt zero n = refl
 length-spelt (suc k) n = ap suc (length-spelt k (n / 256))
 
+-- with what is behind it
+pub length-before : (k n : ℕ) (w : List ℕ) → length (spelt k n ++ w) ≡ k + length w
+length-before k n w = length-append (spelt k n) w ∙ ap (λ (m : ℕ). m + length w) (length-spelt k n)
+
 pub bytes-spelt : (k n : ℕ) → Bytes (spelt k n)
 unfolding spelt Bytes
 bytes-spelt zero n = tt

@@ -13,7 +13,7 @@ use Rattle.format.specs.declared.Read.{Read}
 use Rattle.format.specs.declared.Read.the-variants.{Got, No}
 use Rattle.format.specs.Format.{pick}
 use Rattle.format.specs.ReadWrite.{pairWrite, spelt, eachWrite}
-use Rattle.format.specs.Laws.ReadWrite.{length-spelt}
+use Rattle.format.specs.Laws.ReadWrite.{length-spelt, length-before}
 use Rattle.format.specs.Combinators.{pair, judged, via, seq, _then_, number, fixed, count, each, counted, listed}
 use Rattle.format.specs.Laws.Seen.{seen, itself, unlike}
 use Rattle.format.specs.Laws.Written.{Held}
@@ -96,7 +96,7 @@ leading-long j id = go (eqb j 0)
   where
     go : (b : Bool) → length (pick b (spelt 4 id) (spelt 2 0x8001 ++ spelt 4 id)) ≡ pick b 4 6
     go true = length-spelt 4 id
-    go false = omega (arith, length-append (spelt 2 0x8001) (spelt 4 id), length-spelt 2 0x8001, length-spelt 4 id)
+    go false = omega (arith, length-before 2 0x8001 (spelt 4 id), length-spelt 4 id)
 
 -- a list as it is written: the number of words, the words
 pub list-written : (p : Product) (j id : ℕ) (ws : List Text) → rowIn kinds id ≡ Row.Is Kind.WordList → placed p j .write (id, words ws) ≡ leading j id ++ (spelt 4 (length ws) ++ eachWrite (λ i. word) 0 ws)

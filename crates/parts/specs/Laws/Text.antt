@@ -10,7 +10,7 @@ use lib.ListN.{length, length-append}
 use borrow.Author.Tests.{le-leb, lt-leb, leb-true, eqb-true}
 use Rattle.format.specs.Format.{Bytes, pick}
 use Rattle.format.specs.ReadWrite.{spelt, eachWrite}
-use Rattle.format.specs.Laws.ReadWrite.{length-spelt}
+use Rattle.format.specs.Laws.ReadWrite.{length-spelt, length-before}
 use Rattle.format.specs.Combinators.{number}
 use Rattle.text.specs.Laws.Written.{string-written, length-255, length-other}
 use Rattle.text.specs.Text.{stringLength, string, formOf}
@@ -95,7 +95,7 @@ text-short d at s e h = rw (length-other (length s / 2) e) h
 
 module _ (d : List ℕ) (at k n : ℕ) (s : List ℕ) where
   pub behind-out : length d < at + (k + length s) → d ≡ putIn d at (spelt k n ++ s)
-  behind-out h = put-out d at (spelt k n ++ s) (λ w. omega (arith, w, length-append (spelt k n) s, length-spelt k n))
+  behind-out h = put-out d at (spelt k n ++ s) (λ w. omega (arith, w, length-before k n s))
 
   pub behind-is : {y z : List ℕ} → y ≡ putIn d at (spelt k n) → z ≡ putIn y (at + k) s → at + (k + length s) ≤ length d → z ≡ putIn d at (spelt k n ++ s)
   behind-is e f h = let l = length-spelt k n in put-both d at (spelt k n) s e f (omega arith) (omega arith)

@@ -9,13 +9,14 @@ use lib.Dec.{eqb}
 use borrow.Author.Tests.{ne-eqb}
 use Rattle.format.specs.Format.{pick}
 use Rattle.format.specs.ReadWrite.{pairWrite, spelt, bit, eachWrite}
-use Rattle.format.specs.Laws.ReadWrite.{length-spelt, each-alike}
+use Rattle.format.specs.Laws.ReadWrite.{length-spelt, length-before, each-alike}
 use Rattle.format.specs.Combinators.{pair, seq, _then_, judged, via, number, count, flag, each, counted, sized, measured}
 use Rattle.text.specs.Text.{string}
 use Rattle.kind.specs.declared.Product.{Product}
 use Rattle.kind.specs.declared.Product.the-variants.{Studio}
 use Rattle.element.specs.Element.{Element, element, identifier}
 use Rattle.rule.specs.Rule.{Rule, rule, fields, fromUnknown2, fromUnknown4, body, head, firstHead, separator, placed}
+use Rattle.rule.specs.Places.{ruleBytes}
 
 -- Enabled and Unknown2 to Unknown5; what stands before Data Size; the bytes of the elements
 unfoldable pub kept : Rule → List ℕ
@@ -59,7 +60,7 @@ pub body-size : (p : Product) (i : ℕ) (xs : List Element) → length (body p i
 unfolding sizeOf
 body-size p i xs =
     ap length (body-is p i xs)
-    ∙ omega (arith, length-append (spelt 2 (length xs)) (headBytes i ++ inner xs), length-append (headBytes i) (inner xs), length-spelt 2 (length xs))
+    ∙ omega (arith, length-before 2 (length xs) (headBytes i ++ inner xs), length-append (headBytes i) (inner xs))
 
 pub rule-is : (p : Product) (i : ℕ) (r : Rule) → rule p i .write r ≡ front r ++ back i (r .elements)
 unfolding rule fields fromUnknown2 fromUnknown4 sized measured flag via judged seq pair pairWrite number kept front back
@@ -71,11 +72,14 @@ kept-long r = simp (length-append, length-spelt)
 
 pub front-long : (r : Rule) → length (front r) ≡ 24 + length (string .write (r .name))
 unfolding front
-front-long r = omega (arith, length-append (spelt 4 (r .signature)) (string .write (r .name) ++ kept r), length-append (string .write (r .name)) (kept r), length-spelt 4 (r .signature), kept-long r)
+front-long r = omega (arith, length-before 4 (r .signature) (string .write (r .name) ++ kept r), length-append (string .write (r .name)) (kept r), kept-long r)
 
 pub back-long : (i : ℕ) (xs : List Element) → length (back i xs) ≡ 4 + sizeOf i xs
 unfolding back sizeOf
 back-long i xs = simp (length-append, length-spelt)
+
+pub rule-long : (p : Product) (i : ℕ) (r : Rule) → ruleBytes p i r ≡ 28 + length (string .write (r .name)) + sizeOf i (r .elements)
+rule-long p i r = ap length (rule-is p i r) ∙ omega (arith, length-append (front r) (back i (r .elements)), front-long r, back-long i (r .elements))
 
 -- but for the first, a rule is written alike at every place
 head-later : (i j : ℕ) → 0 < i → 0 < j → headBytes i ≡ headBytes j

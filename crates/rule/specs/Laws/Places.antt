@@ -9,7 +9,7 @@ use lib.Dec.{eqb, lit<}
 use borrow.Author.Tests.{eq-eqb, ne-eqb}
 use Rattle.format.specs.Format.{pick}
 use Rattle.format.specs.ReadWrite.{pairWrite, spelt, bit, eachWrite}
-use Rattle.format.specs.Laws.ReadWrite.{length-spelt}
+use Rattle.format.specs.Laws.ReadWrite.{length-spelt, length-before}
 use Rattle.format.specs.Combinators.{pair, judged, via, seq, _then_, number, count, fixed, flag, each, counted, sized, measured}
 use Rattle.format.specs.declared.Read.{Read}
 use Rattle.format.specs.declared.Read.the-variants.{Got}
@@ -22,15 +22,13 @@ use Rattle.kind.specs.Kinds.{kinds, rowIn, rowOf}
 use Rattle.element.specs.Element.{Element, isRow, dataBy, identifier, element}
 use Rattle.rule.specs.Rule.{Rule, rule, fields, fromUnknown2, fromUnknown4, body, head, separator, placed}
 use Rattle.rule.specs.Places.{ruleBytes, elementsBytes, elementsAt, dataAt, enabledAt}
+use Rattle.rule.specs.Laws.Parts.{body-size, rule-long}
 
 -- ---- of a rule that is known to stand at a place
 
 -- what stands behind a number of k bytes
 behind : (s : List ℕ) (at k to v : ℕ) (w u : List ℕ) → drop at s ≡ (spelt k v ++ w) ++ u → at + k ≡ to → drop to s ≡ w ++ u
 behind s at k to v w u e h = rw (← h) (rw length-spelt at (past s at (spelt k v) (w ++ u) (e ∙ append-assoc (spelt k v) w u)))
-
-long : (k v : ℕ) (w : List ℕ) → length (spelt k v ++ w) ≡ k + length w
-long k v w = length-append (spelt k v) w ∙ ap (λ (m : ℕ). m + length w) (length-spelt k v)
 
 -- a number of four bytes that stands before w
 four : (s : List ℕ) (at v : ℕ) (w u : List ℕ) → v < 256 ^ 4 → drop at s ≡ (spelt 4 v ++ w) ++ u → Held (number 4) s at v
@@ -52,7 +50,7 @@ module _ (p : Product) (i : ℕ) (s : List ℕ) (at : ℕ) (xs : List Element) (
       let es = eachWrite (placed p) 0 xs in
       let eh : drop (at + 2) s ≡ (h ++ es) ++ u = behind s at 2 (at + 2) (length xs) (h ++ es) u (b .is) refl in
       let eh2 : drop (at + 2) s ≡ h ++ (es ++ u) = eh ∙ append-assoc h es u in
-      let l : length (body p i .write xs) ≡ 2 + (length h + length es) = omega (arith, long 2 (length xs) (h ++ es), length-append h es) in
+      let l : length (body p i .write xs) ≡ 2 + (length h + length es) = omega (arith, length-before 2 (length xs) (h ++ es), length-append h es) in
       record {
         many = (_, record { fit = b .fit .0 .0 .0; is = b .is ∙ append-assoc (spelt 2 (length xs)) (h ++ es) u });
         headed = (_, record { fit = b .fit .0 .1 .0 .0; is = eh2 });
@@ -145,7 +143,7 @@ module _ (p : Product) (i : ℕ) (s : List ℕ) (at : ℕ) (x : Rule) (u : List 
       let e7 = behind s (q + 16) 4 (q + 20) (x .unknown5) w7 u e6 (omega arith) in
       let e8 = behind s (q + 20) 4 (q + 24) (length w8) w8 u e7 (omega arith) in
       let bo : Stands (body p i) s (q + 24) (x .elements) u = record { fit = g .1 .1 .1 .1 .0 .0 .1 .0; is = e8 } in
-      let en : q + 24 + length w8 ≡ at + ruleBytes p i x = omega (arith, long 4 (x .signature) (n ++ w2), length-append n w2, long 4 (bit (x .on)) w3, long 4 (x .unknown2) w4, long 4 (x .unknown3) w5, long 4 (x .unknown4) w6, long 4 (x .unknown5) w7, long 4 (length w8) w8) in
+      let en : q + 24 + length w8 ≡ at + ruleBytes p i x = omega (arith, rule-long p i x, body-size p i (x .elements)) in
       record {
         signed = four s at (x .signature) (n ++ w2) u (f .0) (b .is);
         named = (w2 ++ u, record { fit = f .1 .0; is = e1 });

@@ -9,7 +9,7 @@ use lib.Seq.{length-take-le}
 use Rattle.format.specs.declared.Fault.the-variants as Fault
 use Rattle.format.specs.declared.Outcome.the-variants as Outcome
 use Rattle.format.specs.ReadWrite.{spelt, bit}
-use Rattle.format.specs.Laws.ReadWrite.{length-spelt}
+use Rattle.format.specs.Laws.ReadWrite.{length-spelt, length-before}
 use Rattle.text.specs.Text.{string}
 use Rattle.kind.specs.declared.Product.{Product}
 use Rattle.rule.specs.Rule.{Rule}
@@ -34,7 +34,7 @@ switched-holds d n on p rs k {e} {y} h w g z =
     let P = B ++ (spelt 4 (r .signature) ++ string .write (r .name)) in
     let R = spelt 4 (r .unknown2) ++ (spelt 4 (r .unknown3) ++ (spelt 4 (r .unknown4) ++ (spelt 4 (r .unknown5) ++ (back k (r .elements) ++ rules (k + 1) (h .later))))) in
     let i : take n d ≡ P ++ (spelt 4 (bit (r .on)) ++ R) = h .is ∙ simp append-assoc in
-    let t : length P ≡ e = omega (arith, length-append B (spelt 4 (r .signature) ++ string .write (r .name)), length-append (spelt 4 (r .signature)) (string .write (r .name)), length-spelt 4 (r .signature), h .starts, g) in
+    let t : length P ≡ e = omega (arith, length-append B (spelt 4 (r .signature) ++ string .write (r .name)), length-before 4 (r .signature) (string .write (r .name)), h .starts, g) in
     let q : P ++ (spelt 4 (bit on) ++ R) ≡ B ++ (front (switched on r) ++ (back k (r .elements) ++ rules (k + 1) (h .later))) = simp append-assoc in
     rw q at (holds-put P (spelt 4 (bit (r .on))) R (spelt 4 (bit on)) (holds-start d n w) i t (length-spelt 4 (bit (r .on)) ∙ sym (length-spelt 4 (bit on))) z)
 

@@ -10,7 +10,7 @@ use lib.ListN.{length, length-append}
 use borrow.Author.Tests.{leb-true, le-leb, eq-eqb, ne-eqb}
 use Rattle.format.specs.Format.{pick, Format}
 use Rattle.format.specs.ReadWrite.{pairWrite, spelt, eachWrite, AllFit}
-use Rattle.format.specs.Laws.ReadWrite.{length-spelt}
+use Rattle.format.specs.Laws.ReadWrite.{length-spelt, length-before}
 use Rattle.format.specs.Combinators.{pair, via, judged, seq, atStart, nothing, _then_, number, fixed, each}
 use Rattle.format.specs.Laws.Combinators.{computingFormats}
 use Rattle.text.specs.declared.Form.{Form}
@@ -53,8 +53,8 @@ length-most (Long, n) f = leb-true n 255 (f .0 .1 .0 .1)
 
 pub length-size : (l : Length) → stringLength .Fit l → length (stringLength .write l) ≡ lengthSize (l .0)
 unfolding stringLength lengthBehind longLength via pair pairWrite judged nothing number pick
-length-size (Short, n) f = rw (ne-eqb n 255 (short-not n f)) (omega (arith, length-append (spelt 1 n) [], length-spelt 1 n))
-length-size (Long, n) f = omega (arith, length-append (spelt 1 255) (spelt 2 n), length-spelt 1 255, length-spelt 2 n)
+length-size (Short, n) f = rw (ne-eqb n 255 (short-not n f)) (omega (arith, length-before 1 n []))
+length-size (Long, n) f = omega (arith, length-before 1 255 (spelt 2 n), length-spelt 2 n)
 
 -- the shortest form
 form-long : (n : ℕ) → n ≡ 255 → formOf n ≡ Long
@@ -110,7 +110,7 @@ module _ (unit : Format ℕ) where
   word-written t = refl
 
   pub word-length : (t : Text) → length (wordOf unit .write t) ≡ 4 + length (stringOf unit .write t)
-  word-length t = omega (arith, ap length (word-written t), length-append (spelt 4 0) (stringOf unit .write t), length-spelt 4 0)
+  word-length t = omega (arith, ap length (word-written t), length-before 4 0 (stringOf unit .write t))
 
   -- units of w bytes each
   module _ (w : ℕ) (wide : (u : ℕ) → length (unit .write u) ≡ w) where

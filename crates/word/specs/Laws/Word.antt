@@ -15,7 +15,7 @@ use Rattle.format.specs.declared.Read.the-variants as Read
 use Rattle.format.specs.Laws.Fault.{endSays}
 use Rattle.format.specs.Format.{Bytes}
 use Rattle.format.specs.ReadWrite.{spelt, eachWrite}
-use Rattle.format.specs.Laws.ReadWrite.{length-spelt, each-append}
+use Rattle.format.specs.Laws.ReadWrite.{length-spelt, length-before, each-append}
 use Rattle.format.specs.Laws.Back.{Where}
 use Rattle.text.specs.Laws.Written.{word-written}
 use Rattle.text.specs.Text.{string, word, Text, unit}
@@ -54,7 +54,7 @@ wordBytes s = spelt 4 0 ++ textBytes s
 
 word-long : (s : List ℕ) → length (wordBytes s) ≡ 4 + length (textBytes s)
 unfolding wordBytes
-word-long s = omega (arith, length-append (spelt 4 0) (textBytes s), length-spelt 4 0)
+word-long s = omega (arith, length-before 4 0 (textBytes s))
 
 word-is : (s : List ℕ) → textBytes s ≡ string .write (textOf s) → word .write (textOf s) ≡ wordBytes s
 unfolding wordBytes
@@ -109,7 +109,7 @@ module _ (k : ℕ) (els : List Element) (e : ℕ) {c t : ℕ} (o : EndsInList k 
   tail-long : (s : List ℕ) (v : ℕ) → length (upTo ++ (spelt 4 v ++ tail s)) ≡ length (inner els) + (4 + length (textBytes s))
   tail-long s v =
       let W = eachWrite (λ i. word) 0 (o .ws) in
-      omega (arith, length-append upTo (spelt 4 v ++ tail s), length-append (spelt 4 v) (tail s), length-append W (wordBytes s), length-spelt 4 v, word-long s, ap length inner-is, length-append upTo (spelt 4 c ++ W), length-append (spelt 4 c) W, length-spelt 4 c)
+      omega (arith, length-append upTo (spelt 4 v ++ tail s), length-before 4 v (tail s), length-append W (wordBytes s), word-long s, ap length inner-is, length-append upTo (spelt 4 c ++ W), length-before 4 c W)
 
   back-longer : (n : ℕ) (s : List ℕ) → textBytes s ≡ string .write (textOf s) → e + 24 + sizeOf k els ≡ n
       → back k (longer s) ≡ spelt 4 (n + 4 + length (textBytes s) - (e + 24)) ++ (spelt 2 (length els) ++ (headBytes k ++ (upTo ++ (spelt 4 (c + 1) ++ tail s))))
@@ -147,7 +147,7 @@ module _ (n m e t c : ℕ) (s d : List ℕ) where
         let F = front (h .r) in
         let els = h .r .elements in
         let I = upTo k els e o l ++ (spelt 4 C ++ tail k els e o l s) in
-        omega (arith, length-append B (F ++ (spelt 4 S ++ (spelt 2 (length els) ++ (headBytes k ++ I)))), length-append F (spelt 4 S ++ (spelt 2 (length els) ++ (headBytes k ++ I))), length-append (spelt 4 S) (spelt 2 (length els) ++ (headBytes k ++ I)), length-append (spelt 2 (length els)) (headBytes k ++ I), length-append (headBytes k) I, length-append B F, length-spelt 4 S, length-spelt 2 (length els), tail-long k els e o l s C, front-ends n d h z w g, size-ends n d h z w g)
+        omega (arith, length-append B (F ++ (spelt 4 S ++ (spelt 2 (length els) ++ (headBytes k ++ I)))), length-append F (spelt 4 S ++ (spelt 2 (length els) ++ (headBytes k ++ I))), length-before 4 S (spelt 2 (length els) ++ (headBytes k ++ I)), length-before 2 (length els) (headBytes k ++ I), length-append (headBytes k) I, length-append B F, tail-long k els e o l s C, front-ends n d h z w g, size-ends n d h z w g)
 
     longer-holds : {y₁ y₂ y₃ y₄ : List ℕ} (S C : ℕ) → n + 4 + length (textBytes s) ≤ length d → y₁ ≡ putIn d n (spelt 4 0) → y₂ ≡ putIn y₁ (n + 4) (textBytes s) → y₃ ≡ putIn y₂ (e + 20) (spelt 4 S) → y₄ ≡ putIn y₃ t (spelt 4 C) → Holds y₄ (bytesWith S C) (n + length (wordBytes s)) d
     unfolding back
@@ -163,7 +163,7 @@ module _ (n m e t c : ℕ) (s d : List ℕ) where
         let i : take n d ++ E ≡ P ++ (spelt 4 (sizeOf k els) ++ (M ++ (spelt 4 c ++ (W ++ E)))) = rw (last-is n d h z w, inner-is k els e o l) (simp append-assoc) in
         let h₂ = holds-put P (spelt 4 (sizeOf k els)) (M ++ (spelt 4 c ++ (W ++ E))) (spelt 4 S) (holds-behind d n E (omega arith) e₂′) i (front-ends n d h z w g) (length-spelt 4 (sizeOf k els) ∙ sym (length-spelt 4 S)) e₃ in
         let j : P ++ (spelt 4 S ++ (M ++ (spelt 4 c ++ (W ++ E)))) ≡ (P ++ (spelt 4 S ++ M)) ++ (spelt 4 c ++ (W ++ E)) = simp append-assoc in
-        let v : length (P ++ (spelt 4 S ++ M)) ≡ t = omega (arith, length-append P (spelt 4 S ++ M), length-append (spelt 4 S) M, length-append (spelt 2 (length els)) (headBytes k ++ U), length-append (headBytes k) U, length-spelt 4 S, length-spelt 2 (length els), front-ends n d h z w g, o .place) in
+        let v : length (P ++ (spelt 4 S ++ M)) ≡ t = omega (arith, length-append P (spelt 4 S ++ M), length-before 4 S M, length-before 2 (length els) (headBytes k ++ U), length-append (headBytes k) U, front-ends n d h z w g, o .place) in
         let h₃ = holds-put (P ++ (spelt 4 S ++ M)) (spelt 4 c) (W ++ E) (spelt 4 C) h₂ j v (length-spelt 4 c ∙ sym (length-spelt 4 C)) e₄ in
         let q : (P ++ (spelt 4 S ++ M)) ++ (spelt 4 C ++ (W ++ E)) ≡ bytesWith S C = simp append-assoc in
         rw q at h₃
