@@ -4,6 +4,7 @@ use format::Outcome;
 use format::Read;
 use kind::Edition;
 use kind::Product;
+use spot::Site;
 use spot::Spot;
 ghost use Prim.Native.Nat.{_+_, _≤_, _<_};
 ghost use mathlib.Core.Path.{_≡_};
@@ -11,7 +12,7 @@ ghost use lib.ListN.{length};
 ghost use Rattle.buffer.specs.Laid.{putIn};
 ghost use Rattle.locate.specs.Laws.Located.{lastOf};
 ghost use Rattle.plan.specs.Edit.{addElement, Edits};
-ghost use Rattle.plan.specs.Laws.Found.{MakesAs};
+ghost use Rattle.plan.specs.Laws.Found.{MakesAs, Within};
 ghost use Rattle.add_element.specs.Laws.Element.{laterBytes, Grows};
 
 // An element behind others of its rule: 8001 first.
@@ -50,23 +51,15 @@ fn grow(
     o
 }
 
-// To the last of m rules, which starts at a.
-fn element_in(
-    buf: &mut [u8],
-    n: usize,
-    product: Product,
-    identifier: u32,
-    s: &[u8],
-    m: u64,
-    a: usize,
-) -> Outcome
-    requires { ⌜ (a ≤ length (now buf)) × (n ≤ 60000) ⌝ }
-    ensures { λ r. ⌜ MakesAs product lastOf n m a (addElement identifier (now (s .entry))) (now (buf .entry)) r (now (buf .exit)) ⌝ }
+// To the last rule, the one that was found.
+fn element_in(buf: &mut [u8], f: Site, product: Product, identifier: u32, s: &[u8]) -> Outcome
+    requires { ⌜ Within f (now buf) ⌝ }
+    ensures { λ r. ⌜ MakesAs product lastOf f (addElement identifier (now (s .entry))) (now (buf .entry)) r (now (buf .exit)) ⌝ }
 {
-    if m == 0 {
+    if f.rules == 0 {
         return Outcome::No(Fault::Last, 0);
     }
-    let t = steps::name_end(buf, a);
+    let t = steps::name_end(buf, f.start);
     let Read::Got(e, _) = t else {
         return format::end_says(t);
     };
@@ -81,7 +74,7 @@ fn element_in(
     let Read::Got(_, _) = g else {
         return format::in_given(format::end_says(g));
     };
-    grow(buf, n, m, e, count, identifier, s)
+    grow(buf, f.bytes, f.rules, e, count, identifier, s)
 }
 
 // An element is added to the last rule.
@@ -93,8 +86,8 @@ pub fn add_element(edition: u64, buf: &mut [u8], n: usize, identifier: u32, s: &
         return Outcome::No(Fault::Edition, 0);
     };
     let f = plan::find_last(edition, buf, n);
-    let Spot::Is(m, a, _) = f else {
+    let Spot::Is(site) = f else {
         return spot::spot_says(f);
     };
-    element_in(buf, n, product, identifier, s, m, a)
+    element_in(buf, site, product, identifier, s)
 }

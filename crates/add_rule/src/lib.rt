@@ -5,6 +5,7 @@ use format::Read;
 use kind::Edition;
 use kind::Product;
 use rule::Fields;
+use spot::Site;
 use spot::Spot;
 ghost use Prim.Native.Nat.{ℕ, _+_, _≤_, _<_};
 ghost use mathlib.Core.Path.{_≡_};
@@ -54,44 +55,42 @@ fn put_back(buf: &mut [u8], at: usize, i: u64, identifier: u32, s: &[u8])
     parts::put_behind(buf, at + 6 + head, 4, identifier as u64, s);
 }
 
-// Behind m rules, to the end of the deck.
+// Behind the rules of the deck that was found.
 fn extend(
     buf: &mut [u8],
-    n: usize,
-    m: u64,
+    site: Site,
     name: &[u8],
     fields: Fields,
     identifier: u32,
     s: &[u8],
 ) -> Outcome
-    requires { ⌜ (n ≤ 60000) × (m ≤ 256) × (isText (now name) ≡ true) ⌝ }
-    ensures { λ r. ⌜ Extends n m (now (name .entry)) fields identifier (now (s .entry)) (now (buf .entry)) r (now (buf .exit)) ⌝ }
+    requires { ⌜ (site .bytes ≤ 60000) × (site .rules ≤ 256) × (isText (now name) ≡ true) ⌝ }
+    ensures { λ r. ⌜ Extends site (now (name .entry)) fields identifier (now (s .entry)) (now (buf .entry)) r (now (buf .exit)) ⌝ }
 {
-    let at = n + 24 + parts::text_size(name);
-    let end = at + 10 + head::head_size(m) + s.len();
-    let o = room::room_for(m + 1, end, buf.len());
+    let at = site.bytes + 24 + parts::text_size(name);
+    let end = at + 10 + head::head_size(site.rules) + s.len();
+    let o = room::room_for(site.rules + 1, end, buf.len());
     let Outcome::Done(_) = o else {
         return o;
     };
-    put_front(buf, n, name, fields);
-    put_back(buf, at, m, identifier, s);
-    buffer::put_number(buf, 5, 2, m + 1);
+    put_front(buf, site.bytes, name, fields);
+    put_back(buf, at, site.rules, identifier, s);
+    plan::finish(buf, site, site.rules + 1, end);
     o
 }
 
-// To a deck of m rules.
+// What is given judged, then the rest.
 fn rule_in(
     buf: &mut [u8],
-    n: usize,
+    site: Site,
     product: Product,
-    m: u64,
     name: &[u8],
     fields: Fields,
     identifier: u32,
     s: &[u8],
 ) -> Outcome
-    requires { ⌜ (n ≤ 60000) × (m ≤ 256) ⌝ }
-    ensures { λ r. ⌜ ((a : ℕ) → MakesAs product lastOf n m a (addRule (now (name .entry)) fields identifier (now (s .entry))) (now (buf .entry)) r (now (buf .exit))) ⌝ }
+    requires { ⌜ (site .bytes ≤ 60000) × (site .rules ≤ 256) ⌝ }
+    ensures { λ r. ⌜ MakesAs product lastOf site (addRule (now (name .entry)) fields identifier (now (s .entry))) (now (buf .entry)) r (now (buf .exit)) ⌝ }
 {
     let text = given::is_text(name);
     if !text {
@@ -101,7 +100,7 @@ fn rule_in(
     let Read::Got(_, _) = x else {
         return format::in_given(format::end_says(x));
     };
-    extend(buf, n, m, name, fields, identifier, s)
+    extend(buf, site, name, fields, identifier, s)
 }
 
 // A rule is added at the end, with its name, its fixed fields and its first element.
@@ -121,8 +120,8 @@ pub fn add_rule(
         return Outcome::No(Fault::Edition, 0);
     };
     let f = plan::find_last(edition, buf, n);
-    let Spot::Is(m, _, _) = f else {
+    let Spot::Is(site) = f else {
         return spot::spot_says(f);
     };
-    rule_in(buf, n, product, m, name, fields, identifier, s)
+    rule_in(buf, site, product, name, fields, identifier, s)
 }

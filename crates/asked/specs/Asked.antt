@@ -10,7 +10,7 @@ use Rattle.kind.specs.declared.Edition.{Edition}
 use Rattle.kind.specs.declared.Edition.the-variants as Edition
 use Rattle.kind.specs.Kinds.{editionOf}
 use Rattle.rule.specs.Rule.{Rule}
-use Rattle.deck.specs.Deck.{readAs}
+use Rattle.deck.specs.Deck.{Deck, readAs}
 use Rattle.deck.specs.Written.{startOf}
 
 -- how a refusal is said, and what is told of a rule that starts at a place
@@ -21,8 +21,8 @@ module _ {W : Type 0} (no : Fault → ℕ → W) where
   askedFirst f at (r ∷ rs) = f at r
 
   -- "the read's refusals without 14, then 16"
-  abbrev pub askedOf : (Product → ℕ → Rule → W) → ℕ → Product → Answer (List Rule) → W
-  askedOf f k p (got rs n) = askedFirst (f p) (startOf rs k) (drop k rs)
+  abbrev pub askedOf : (Product → ℕ → Rule → W) → ℕ → Product → Answer Deck → W
+  askedOf f k p (got d n) = askedFirst (f p) (startOf (d .version) (d .rules) k) (drop k (d .rules))
   askedOf f k p (refused c q) = no c q
 
   -- "asked for by deck, edition and numbers": 1 at 0 where the edition is none

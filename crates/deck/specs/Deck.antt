@@ -1,5 +1,6 @@
 -- The deck, and its reading whole: document 01, "The deck" and "Numbers a refusal gives".
 use Prim.Native.Nat.{ℕ}
+use mathlib.Core.Path.{refl}
 use mathlib.Core.List.{List, [], _∷_}
 use lib.ListN.{length}
 use lib.Dec.{leb}
@@ -8,7 +9,8 @@ use Rattle.format.specs.declared.Fault.the-variants as Fault
 use Rattle.format.specs.declared.Outcome.{Outcome}
 use Rattle.format.specs.declared.Outcome.the-variants.{Done, No}
 use Rattle.format.specs.Format.{Answer, got, refused, Format, pick, whole}
-use Rattle.format.specs.Combinators.{_then_, count, fixed, bytes, each, counted}
+use Rattle.format.specs.ReadWrite.{within}
+use Rattle.format.specs.Combinators.{judged, via, seq, _then_, number, count, bytes, each, counted}
 use Rattle.format.specs.Laws.Combinators.{each-long}
 use Rattle.format.specs.Row.{total}
 use Rattle.kind.specs.declared.Product.{Product}
@@ -27,32 +29,44 @@ mark = 0x52 ∷ 0x44 ∷ 0x4B ∷ []
 abbrev pub ruleCount : Format ℕ
 ruleCount = count 2 0 256
 
--- mark; version, 1; number of rules
-unfoldable pub header : Format ℕ
-header = bytes mark Fault.Mark then fixed 2 1 Fault.Version then ruleCount
+-- mark; "version, 1": 2 bytes
+unfoldable pub version : Format ℕ
+version = bytes mark Fault.Mark then judged (within 1 1) Fault.Version (number 2)
 
--- "the rules, back to back"
-unfoldable pub deck : Product → Format (List Rule)
-deck p = counted header (each (rule p) 0) (each-long (rule p) 0)
+-- number of rules; "the rules, back to back"
+unfoldable pub ruleList : Product → Format (List Rule)
+ruleList p = counted ruleCount (each (rule p) 0) (each-long (rule p) 0)
+
+-- what a deck says
+pub record Deck : Type 0 where
+  pub version : ℕ
+  pub rules : List Rule
+
+unfoldable pub deck : Product → Format Deck
+deck p = via (seq version (ruleList p)) (λ q. record { version = q .0; rules = q .1 }) (λ k. (k .version, k .rules)) (λ q f. refl)
 
 -- "deck over 60,000 bytes": 2; then "left to right", "to the last byte"
-unfoldable pub readAs : Product → List ℕ → Answer (List Rule)
+unfoldable pub readAs : Product → List ℕ → Answer Deck
 readAs p s = pick (leb (length s) 60000) (whole (length s) (deck p .read s)) (refused Fault.Long 60000)
 
 -- "A read judges 1, then 2"
-unfoldable pub readBy : Edition → List ℕ → Answer (List Rule)
+unfoldable pub readBy : Edition → List ℕ → Answer Deck
 readBy (Edition.Of p) s = readAs p s
 readBy Edition.Unknown s = refused Fault.Edition 0
 
-unfoldable pub readDeck : ℕ → List ℕ → Answer (List Rule)
+unfoldable pub readDeck : ℕ → List ℕ → Answer Deck
 readDeck edition s = readBy (editionOf edition) s
 
 -- "for a read it is the number of rules"
-abbrev pub answered : Answer (List Rule) → Outcome
-answered (got rs n) = Done (length rs)
+abbrev pub answered : Answer Deck → Outcome
+answered (got k n) = Done (length (k .rules))
 answered (refused c p) = No c p
 
--- a pass over the deck tells the number of rules and that of their elements
-abbrev pub scanned : Answer (List Rule) → Scan
-scanned (got rs n) = Scan.Is (length rs) (total elementsIn rs)
+-- the rules, n of them, start behind the header
+unfoldable pub baseOf : ℕ → ℕ → ℕ
+baseOf v n = 7
+
+-- a pass over the deck tells its version, where the rules start, their number and that of their elements
+abbrev pub scanned : Answer Deck → Scan
+scanned (got k n) = Scan.Is (k .version) (baseOf (k .version) (length (k .rules))) (length (k .rules)) (total elementsIn (k .rules))
 scanned (refused c p) = Scan.No c p

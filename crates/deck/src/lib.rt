@@ -12,21 +12,27 @@ ghost use Rattle.format.specs.Row.{total};
 ghost use Rattle.format.specs.Laws.Seen.{seen, itself};
 ghost use Rattle.rule.specs.Rule.{rule, elementsIn};
 ghost use Rattle.scan.specs.Scan.{scanSays};
-ghost use Rattle.deck.specs.Deck.{header, readAs, readDeck, scanned, answered};
+ghost use Rattle.deck.specs.Deck.{version, readAs, readDeck, scanned, answered};
 
-// Mark and version; the value is the number of rules.
-fn header_at(s: &[u8]) -> Read
-    ensures { λ r. ⌜ r ≡ seen itself header (now (s .entry)) 0 ⌝ }
+// Mark and version; the value is the version.
+fn version_at(s: &[u8]) -> Read
+    ensures { λ r. ⌜ r ≡ seen itself version (now (s .entry)) 0 ⌝ }
 {
     let m = field::fixed24_at(s, 0, 0x4B_4452, Fault::Mark);
     let Read::Got(p, _) = m else {
         return m;
     };
-    let v = field::fixed16_at(s, p, 1, Fault::Version);
-    let Read::Got(q, _) = v else {
+    let v = wire::u16_at(s, p);
+    let Read::Got(_, n) = v else {
         return v;
     };
-    field::count16_at(s, q, 0, 256)
+    if n < 1 {
+        return Read::No(p, Fault::Version);
+    }
+    if 1 < n {
+        return Read::No(p, Fault::Version);
+    }
+    v
 }
 
 // n rules; the value is the number of their elements.
@@ -56,18 +62,22 @@ fn pass_as(product: Product, s: &[u8]) -> Scan
     if 60000 < s.len() {
         return Scan::No(Fault::Long, 60000);
     }
-    let h = header_at(s);
-    let Read::Got(p, n) = h else {
+    let h = version_at(s);
+    let Read::Got(p, version) = h else {
         return scan::no_scan(format::end_says(h));
     };
-    let r = rules_at(s, p, product, n);
+    let c = field::count16_at(s, p, 0, 256);
+    let Read::Got(b, n) = c else {
+        return scan::no_scan(format::end_says(c));
+    };
+    let r = rules_at(s, b, product, n);
     let Read::Got(q, t) = r else {
         return scan::no_scan(format::end_says(r));
     };
     if q != s.len() {
         return Scan::No(Fault::Over, q);
     }
-    Scan::Is(n, t)
+    Scan::Is(version, b, n, t)
 }
 
 // A pass over a deck.

@@ -26,9 +26,8 @@ use Rattle.moment.specs.Laws.One.{said-one}
 use Rattle.value.specs.declared.Value.{Value}
 use Rattle.value.specs.Value.{valueAnswer}
 use Rattle.put.specs.Plan.{write, deny, putting, putSays, Putting, putLeaves}
-use Rattle.rule.specs.Rule.{Rule}
 use Rattle.scan.specs.Scan.{scanSays}
-use Rattle.deck.specs.Deck.{readAs, readDeck, answered, scanned}
+use Rattle.deck.specs.Deck.{Deck, readAs, readDeck, answered, scanned}
 use Rattle.tables.specs.Tables.{tabled, readSays, rulesLeft, rulesAfter, elementsLeft, elementsAfter}
 use Rattle.view.specs.View.{viewSays}
 use Rattle.name_view.specs.Name.{nameView}
@@ -57,8 +56,8 @@ pub edit-as-found : (edition n : ℕ) (e : Edit) (d : List ℕ) {r : Outcome} {x
 unfolding says leaves
 edit-as-found edition n e d {r} {x} f h = f .1 ∙ go (planned edition n d e) (ap codeOf (f .0))
   where
-    go : (q : Plan) → codeOf r ≡ codeOf (says q) → leaves n d q ≡ d
-    go (become rs) w = absurd (omega arith)
+    go : (q : Plan Deck) → codeOf r ≡ codeOf (says q) → leaves n d q ≡ d
+    go (become k) w = absurd (omega arith)
     go (refuse c o) w = refl
     go (refuseGiven c o) w = refl
 
@@ -67,7 +66,7 @@ pub read-as-found : (edition : ℕ) (s rules elements : List ℕ) → 0 < codeOf
     → (rulesAfter (editionOf edition) s rules elements ≡ rules) × (elementsAfter (editionOf edition) s rules elements ≡ elements)
 read-as-found edition s rules elements = by (editionOf edition)
   where
-    left : (a : Answer (List Rule)) (o : Outcome) → 0 < codeOf o → (p : Product) → (rulesLeft p o a rules ≡ rules) × (elementsLeft p o a elements ≡ elements)
+    left : (a : Answer Deck) (o : Outcome) → 0 < codeOf o → (p : Product) → (rulesLeft p o a rules ≡ rules) × (elementsLeft p o a elements ≡ elements)
     left a (Outcome.Done n) h p = absurd (omega arith)
     left a (Outcome.No c q) h p = (refl, refl)
     left a (Outcome.Given c q) h p = (refl, refl)

@@ -17,16 +17,15 @@ use Rattle.kind.specs.declared.Kind.the-variants.{Simple}
 use Rattle.kind.specs.declared.Row.the-variants.{Is, No}
 use Rattle.kind.specs.Kinds.{kinds, has, inProduct, identifiers, rowIn, offered, rowOf}
 use Rattle.element.specs.Element.{isRow}
-use Rattle.rule.specs.Rule.{Rule}
-use Rattle.deck.specs.Deck.{deck, readAs}
+use Rattle.deck.specs.Deck.{Deck, deck, readAs}
 use Rattle.deck.specs.Laws.Deck.{read-writes-back, written-reads-back}
 
 -- both ways, in both editions
-pub written-then-read : (p : Product) (rs : List Rule) → deck p .Fit rs → length (deck p .write rs) ≤ 60000 → readAs p (deck p .write rs) ≡ got rs (length (deck p .write rs))
+pub written-then-read : (p : Product) (k : Deck) → deck p .Fit k → length (deck p .write k) ≤ 60000 → readAs p (deck p .write k) ≡ got k (length (deck p .write k))
 written-then-read = written-reads-back
 
-pub read-then-written : (p : Product) (s : List ℕ) (rs : List Rule) (n : ℕ) → Bytes s → readAs p s ≡ got rs n → s ≡ deck p .write rs
-read-then-written p s rs n b e = read-writes-back p s rs n b e .is
+pub read-then-written : (p : Product) (s : List ℕ) (k : Deck) (n : ℕ) → Bytes s → readAs p s ≡ got k n → s ≡ deck p .write k
+read-then-written p s k n b e = read-writes-back p s k n b e .is
 
 -- ---- the identifier: accepted by a product exactly when it is among that product's identifiers, whatever number it is
 has-append : (xs ys : List ℕ) (id : ℕ) → has (xs ++ ys) id ≡ has xs id || has ys id

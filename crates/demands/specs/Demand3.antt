@@ -16,8 +16,8 @@ use Rattle.kind.specs.declared.Product.{Product}
 use Rattle.kind.specs.declared.Product.the-variants.{Studio}
 use Rattle.kind.specs.declared.Edition.the-variants as Edition
 use Rattle.kind.specs.Kinds.{editionOf}
-use Rattle.rule.specs.Rule.{Rule}
-use Rattle.deck.specs.Deck.{readAs}
+use Rattle.deck.specs.Deck.{Deck, readAs}
+use Rattle.deck.specs.Written.{deckOf}
 use Rattle.plan.specs.Edit.{Edit, planned, says, Edits}
 use Rattle.start.specs.Start.{startSays, startLeaves}
 use Rattle.runs.specs.Run.{Buffer, Call, Promise, Ran, Steps, step, lengthFrom, Called, runRules}
@@ -47,27 +47,27 @@ sends-step edition n e d r d′ f = (f .0, ap₂ (λ (x : List ℕ) (m : ℕ). (
 -- ---- b is the buffer d, with the length of its deck, after a run of such calls
 module _ {A : Type 0} {P : Promise A} {next : ℕ → A → ℕ} (is : Steps P next) (d : List ℕ) {b : Buffer} where
   -- each call in an edition of its own; Studio takes what either takes, and reads it back
-  pub after-any-run : (p : Product) (n m : ℕ) (rs : List Rule) (cs : List Call) → Bytes d → n ≤ length d → readAs p (take n d) ≡ got rs m
-      → Ran P next cs (d, n) b → Left Studio d (runRules (length d) cs (rs, n)) b
-  after-any-run p n m rs cs bs l r h = left-by is cs (at-accepted p d n m rs bs l r) h
+  pub after-any-run : (p : Product) (n m : ℕ) (k : Deck) (cs : List Call) → Bytes d → n ≤ length d → readAs p (take n d) ≡ got k m
+      → Ran P next cs (d, n) b → Left Studio d (runRules (length d) cs (k, n)) b
+  after-any-run p n m k cs bs l r h = left-by is cs (at-accepted p d n m k bs l r) h
 
   -- an accepted start of an empty deck begins a run
-  pub after-a-start : (cs : List Call) → codeOf (startSays (length d)) ≡ 0 → Ran P next cs (startLeaves d, placeOf (startSays (length d))) b → Left Studio d (runRules (length d) cs ([], 7)) b
+  pub after-a-start : (cs : List Call) → codeOf (startSays (length d)) ≡ 0 → Ran P next cs (startLeaves d, placeOf (startSays (length d))) b → Left Studio d (runRules (length d) cs (deckOf 1 [], 7)) b
   after-a-start cs e h = left-by is cs (at-start Studio d e) h
 
-  -- all in the edition that accepted the deck: the list takes every edit
+  -- all in the edition that accepted the deck: the deck takes every edit
   module _ (edition : ℕ) (p : Product) (ed : editionOf edition ≡ Edition.Of p) (es : List Edit) where
-    pub in-one-edition : (n m : ℕ) (rs : List Rule) → Bytes d → n ≤ length d → readAs p (take n d) ≡ got rs m → Ran P next (calls edition es) (d, n) b → Left p d (runIn p (length d) es (rs, n)) b
-    in-one-edition n m rs bs l r h = left-in is edition es ed (at-accepted p d n m rs bs l r) h
+    pub in-one-edition : (n m : ℕ) (k : Deck) → Bytes d → n ≤ length d → readAs p (take n d) ≡ got k m → Ran P next (calls edition es) (d, n) b → Left p d (runIn p (length d) es (k, n)) b
+    in-one-edition n m k bs l r h = left-in is edition es ed (at-accepted p d n m k bs l r) h
 
-    pub start-in-one-edition : codeOf (startSays (length d)) ≡ 0 → Ran P next (calls edition es) (startLeaves d, placeOf (startSays (length d))) b → Left p d (runIn p (length d) es ([], 7)) b
+    pub start-in-one-edition : codeOf (startSays (length d)) ≡ 0 → Ran P next (calls edition es) (startLeaves d, placeOf (startSays (length d))) b → Left p d (runIn p (length d) es (deckOf 1 [], 7)) b
     start-in-one-edition e h = left-in is edition es ed (at-start p d e) h
 
 -- ---- which is so of the library's edits, and of the calls for C
-pub after-any-edits : (d : List ℕ) {b : Buffer} (p : Product) (n m : ℕ) (rs : List Rule) (cs : List Call) → Bytes d → n ≤ length d → readAs p (take n d) ≡ got rs m
-    → Ran Called lengthFrom cs (d, n) b → Left Studio d (runRules (length d) cs (rs, n)) b
+pub after-any-edits : (d : List ℕ) {b : Buffer} (p : Product) (n m : ℕ) (k : Deck) (cs : List Call) → Bytes d → n ≤ length d → readAs p (take n d) ≡ got k m
+    → Ran Called lengthFrom cs (d, n) b → Left Studio d (runRules (length d) cs (k, n)) b
 after-any-edits d = after-any-run called d
 
-pub after-any-sends : (d : List ℕ) {b : Buffer} (p : Product) (n m : ℕ) (rs : List Rule) (cs : List Call) → Bytes d → n ≤ length d → readAs p (take n d) ≡ got rs m
-    → Ran Sends lengthSent cs (d, n) b → Left Studio d (runRules (length d) cs (rs, n)) b
+pub after-any-sends : (d : List ℕ) {b : Buffer} (p : Product) (n m : ℕ) (k : Deck) (cs : List Call) → Bytes d → n ≤ length d → readAs p (take n d) ≡ got k m
+    → Ran Sends lengthSent cs (d, n) b → Left Studio d (runRules (length d) cs (k, n)) b
 after-any-sends d = after-any-run sends-step d

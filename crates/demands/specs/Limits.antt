@@ -1,7 +1,7 @@
--- How many elements a deck can have: behind its 7 bytes of header each takes at least 10, so they are at most 5,999.
+-- How many elements a deck can have: behind the 7 bytes or more before the rules each takes at least 10, so they are at most 5,999.
 use Prim.Native.Nat.{ℕ, _+_, _*_, _≤_, _<_}
 use native.Mathlib.Omega.{arith}
-use mathlib.Core.Path.{_≡_, ap}
+use mathlib.Core.Path.{_≡_, ap, _∙_}
 use mathlib.Core.List.{List, [], _∷_, _++_}
 use lib.ListN.{length, length-append}
 use borrow.Author.Tests.{ne-eqb}
@@ -23,8 +23,9 @@ use Rattle.element.specs.Element.{Element, element, identifier, dataBy}
 use Rattle.rule.specs.Rule.{Rule, rule, body, head, placed, elementsIn}
 use Rattle.rule.specs.Places.{ruleBytes, elementsBytes}
 use Rattle.rule.specs.Laws.Parts.{body-size, rule-long}
-use Rattle.deck.specs.Deck.{header, deck, readAs}
-use Rattle.deck.specs.Laws.Deck.{read-writes-back, header-length}
+use Rattle.deck.specs.Deck.{Deck, readAs}
+use Rattle.deck.specs.Laws.Deck.{read-writes-back}
+use Rattle.deck.specs.Laws.Written.{rules-as, base-least, written-as, written-long}
 
 data-least : (k : Kind) (d : Data) → 4 ≤ length (dataOf k .write d)
 unfolding markerData simpleData wordData sizeData dateData limit flag date oneZero fixed listed counted count _then_ seq pair pairWrite via judged number spelt
@@ -73,11 +74,12 @@ rules-least p i [] = omega arith
 rules-least p i (r ∷ rs) = omega (arith, length-append (rule p i .write r) (eachWrite (rule p) (i + 1) rs), rule-least p i r, rules-least p (i + 1) rs)
 
 -- each element takes at least 10 bytes of its deck
-pub elements-most : (p : Product) (s : List ℕ) (rs : List Rule) (n : ℕ) → Bytes s → readAs p s ≡ got rs n → 7 + 10 * total elementsIn rs ≤ length s
-unfolding deck counted each via pair pairWrite
-elements-most p s rs n b e =
-    let w = read-writes-back p s rs n b e in
-    omega (arith, ap length (w .is), length-append (header .write (length rs)) (eachWrite (rule p) 0 rs), header-length (length rs), rules-least p 0 rs)
+pub elements-most : (p : Product) (s : List ℕ) (k : Deck) (n : ℕ) → Bytes s → readAs p s ≡ got k n → 7 + 10 * total elementsIn (k .rules) ≤ length s
+elements-most p s k n b e =
+    let v = k .version in
+    let rs = k .rules in
+    let w = read-writes-back p s k n b e in
+    omega (arith, ap length (w .is ∙ written-as v rs p), written-long v rs, base-least v (length rs), ap length (rules-as p 0 rs), rules-least p 0 rs)
 
-pub elements-bound : (p : Product) (s : List ℕ) (rs : List Rule) (n : ℕ) → Bytes s → readAs p s ≡ got rs n → total elementsIn rs ≤ 5999
-elements-bound p s rs n b e = omega (arith, elements-most p s rs n b e, read-writes-back p s rs n b e .short)
+pub elements-bound : (p : Product) (s : List ℕ) (k : Deck) (n : ℕ) → Bytes s → readAs p s ≡ got k n → total elementsIn (k .rules) ≤ 5999
+elements-bound p s k n b e = omega (arith, elements-most p s k n b e, read-writes-back p s k n b e .short)

@@ -21,6 +21,6 @@ pub record Between (s : List ℕ) (from to : ℕ) (bs : List ℕ) : Type 0 where
 abbrev pub UnitsOf : List ℕ → List ℕ → Type 0
 UnitsOf us bs = (bs ≡ eachWrite (λ i. number 2) 0 us) × (units bs ≡ us)
 
--- element i of rule k, which is r, starts behind those before it
-abbrev pub elementStart : Product → List Rule → ℕ → Rule → ℕ → ℕ
-elementStart p rs k r i = startIn (placed p) (elementsAt p k (startOf rs k) r) (r .elements) i
+-- element i of rule k of rs in version v, which is r, starts behind those before it
+abbrev pub elementStart : Product → ℕ → List Rule → ℕ → Rule → ℕ → ℕ
+elementStart p v rs k r i = startIn (placed p) (elementsAt p k (startOf v rs k) r) (r .elements) i

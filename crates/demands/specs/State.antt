@@ -20,11 +20,12 @@ use Rattle.rule.specs.Rule.{Rule, elementsIn}
 use Rattle.rule.specs.Places.{enabledAt}
 use Rattle.rule.specs.Laws.Places.{rule-parts}
 use Rattle.deck.specs.Deck.{readAs}
-use Rattle.deck.specs.Written.{startOf}
+use Rattle.deck.specs.Written.{deckOf, startOf}
 use Rattle.fill.specs.Rows.{ruleWidth, elementWidth}
 use Rattle.tables.specs.Tables.{readSays, rulesAfter, elementsAfter}
 use Rattle.buffer.specs.Laid.{putIn}
 use Rattle.steps.specs.Laws.Steps.{sound-read, here, nameEnd}
+use Rattle.locate.specs.Laws.Located.{siteOf}
 use Rattle.plan.specs.Edit.{switch, planned, leaves}
 use Rattle.plan.specs.Laws.Found.{Makes}
 use Rattle.plan.specs.Laws.Makes.{name-ends}
@@ -38,8 +39,8 @@ use Rattle.listed.specs.Laws.Listed.{rule-listed-as, element-listed-as}
 use Rattle.demands.specs.Laws.Places.{rule-stands}
 use Rattle.demands.specs.Tables.{rule-has-row, element-has-row}
 
--- ---- the deck s was read as the rules rs, and r is rule k of them
-module _ (edition : ℕ) (p : Product) (ed : editionOf edition ≡ Edition.Of p) (s : List ℕ) (rs : List Rule) (n : ℕ) (bs : Bytes s) (e : readAs p s ≡ got rs n) (k : ℕ) {r : Rule} {later : List Rule} (is-r : drop k rs ≡ r ∷ later) where
+-- ---- the deck s was read as the rules rs in version v, and r is rule k of them
+module _ (edition : ℕ) (p : Product) (ed : editionOf edition ≡ Edition.Of p) (v : ℕ) (s : List ℕ) (rs : List Rule) (n : ℕ) (bs : Bytes s) (e : readAs p s ≡ got (deckOf v rs) n) (k : ℕ) {r : Rule} {later : List Rule} (is-r : drop k rs ≡ r ∷ later) where
   -- the fixed fields are that rule's, so the four bytes that `RuleRow` has for its state are the state that they give
   pub fixed-are : fixedFields edition k s ≡ Is (fixedOf r)
   unfolding fixedFields asked
@@ -51,11 +52,11 @@ module _ (edition : ℕ) (p : Product) (ed : editionOf edition ≡ Edition.Of p)
     pub rule-is-listed : ruleListed s k (drop (ruleWidth * k) (rulesAfter (editionOf edition) s rules elements)) ≡ ruleLine k (r .on) (length (r .name .units)) (length (r .elements))
     rule-is-listed =
         let tail = drop (ruleWidth * k) (rulesAfter (editionOf edition) s rules elements) in
-        let row = rule-has-row edition p ed s rs n bs e rules elements m done k is-r in
-        let h = rule-stands p s rs n bs e k is-r in
-        let on = rule-parts p k s (startOf rs k) r (h .0) (h .1) .switched in
+        let row = rule-has-row edition p ed v s rs n bs e rules elements m done k is-r in
+        let h = rule-stands p v s rs n bs e k is-r in
+        let on = rule-parts p k s (startOf v rs k) r (h .0) (h .1) .switched in
         let whole : tail ≡ row .start ∷ row .end ∷ row .units ∷ length (r .elements) ∷ row .enabled ∷ drop ruleWidth tail = sym (take-append-drop ruleWidth tail) ∙ ap (λ (w : List ℕ). w ++ drop ruleWidth tail) (row .is) in
-        let is : row .enabled ≡ enabledAt (startOf rs k) r = row .stands ∙ ap (λ (a : ℕ). enabledAt a r) (row .starts) in
+        let is : row .enabled ≡ enabledAt (startOf v rs k) r = row .stands ∙ ap (λ (a : ℕ). enabledAt a r) (row .starts) in
         let read : number 4 .read (drop (row .enabled) s) ≡ got (bit (r .on)) _ = ap (λ (a : ℕ). number 4 .read (drop a s)) is ∙ ap (number 4 .read) (on .1 .is) ∙ number 4 .back (bit (r .on)) (on .0) (on .1 .fit) in
         ap (ruleListed s k) whole ∙ rule-listed-as s k (row .start) (row .end) (row .units) (length (r .elements)) (row .enabled) (length (r .name .units)) (r .on) (drop ruleWidth tail) (row .behind) read
 
@@ -64,21 +65,21 @@ module _ (edition : ℕ) (p : Product) (ed : editionOf edition ≡ Edition.Of p)
         → elementListed i (drop (elementWidth * (total elementsIn (take k rs) + i)) (elementsAfter (editionOf edition) s rules elements)) ≡ elementLine i (x .0) (length (dataBy (rowIn kinds (x .0)) .write (x .1)))
     element-is-listed i {x} is-x =
         let tail = drop (elementWidth * (total elementsIn (take k rs) + i)) (elementsAfter (editionOf edition) s rules elements) in
-        let row = element-has-row edition p ed s rs n bs e rules elements m done k is-r i is-x in
+        let row = element-has-row edition p ed v s rs n bs e rules elements m done k is-r i is-x in
         let whole : tail ≡ x .0 ∷ k ∷ row .start ∷ row .end ∷ drop elementWidth tail = sym (take-append-drop elementWidth tail) ∙ ap (λ (w : List ℕ). w ++ drop elementWidth tail) (row .is) in
         let bytes : row .end - row .start ≡ length (dataBy (rowIn kinds (x .0)) .write (x .1)) = omega (arith, row .written .ends) in
         ap (elementListed i) whole ∙ element-listed-as i (x .0) k (row .start) (row .end) (drop elementWidth tail) ∙ ap (elementLine i (x .0)) bytes
 
--- ---- the deck in the first n bytes of the buffer d was read as the rules rs, and r is rule k of them: a switch puts the state into its four bytes, and no other byte changes
-pub switch-changes : (edition : ℕ) (p : Product) → editionOf edition ≡ Edition.Of p → (d : List ℕ) (n : ℕ) → n ≤ length d → Bytes (take n d) → (rs : List Rule) (m : ℕ) → readAs p (take n d) ≡ got rs m → (k : ℕ) {r : Rule} {later : List Rule} → drop k rs ≡ r ∷ later → (on : Bool)
-    → leaves n d (planned edition n d (switch k on)) ≡ putIn d (enabledAt (startOf rs k) r) (spelt 4 (bit on))
+-- ---- the deck in the first n bytes of the buffer d was read as the rules rs in version v, and r is rule k of them: a switch puts the state into its four bytes, and no other byte changes
+pub switch-changes : (edition : ℕ) (p : Product) → editionOf edition ≡ Edition.Of p → (d : List ℕ) (n : ℕ) → n ≤ length d → Bytes (take n d) → (v : ℕ) (rs : List Rule) (m : ℕ) → readAs p (take n d) ≡ got (deckOf v rs) m → (k : ℕ) {r : Rule} {later : List Rule} → drop k rs ≡ r ∷ later → (on : Bool)
+    → leaves n d (planned edition n d (switch k on)) ≡ putIn d (enabledAt (startOf v rs k) r) (spelt 4 (bit on))
 unfolding planned Makes pick
-switch-changes edition p ed d n l bs rs m e k {r} is-r on =
-    let o = sound-read p (take n d) rs m bs e in
+switch-changes edition p ed d n l bs v rs m e k {r} is-r on =
+    let o = sound-read p (take n d) (deckOf v rs) m bs e in
     let few : k < length rs = omega (arith, length-drop k rs, ap length is-r) in
-    let h = here p (take n d) rs k o few in
+    let h = here p v (take n d) rs k o few in
     let both : h .r ∷ h .later ≡ r ∷ _ = sym (h .from) ∙ is-r in
     let same : h .r ≡ r = cc in
-    let ends : nameEnd d (startOf rs k) ≡ enabledAt (startOf rs k) r = name-ends n d h ∙ ap (enabledAt (startOf rs k)) same in
-    let does = switch-done edition n k (length rs) (startOf rs k) (startOf rs (k + 1)) on d (nameEnd d (startOf rs k)) few refl refl p rs ed o l refl refl refl in
+    let ends : nameEnd d (startOf v rs k) ≡ enabledAt (startOf v rs k) r = name-ends n d h ∙ ap (enabledAt (startOf v rs k)) same in
+    let does = switch-done edition k (siteOf (λ xs. k) n v rs) on d (nameEnd d (startOf v rs k)) few refl refl p v rs ed (record { sound = o; within = l; version = refl; many = refl; base = refl; starts = refl; ends = refl }) in
     rw (ed, le-leb n (length d) l, e) (sym (does .1) ∙ ap (λ (a : ℕ). putIn d a (spelt 4 (bit on))) ends)

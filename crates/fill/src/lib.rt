@@ -155,24 +155,28 @@ fn fill_rule(
     }
 }
 
-// The n rules of a deck that was accepted; the value is n.
+// The n rules of a deck that was accepted, which start at base; the value is n.
 pub fn fill_rules(
     s: &[u8],
     product: Product,
+    base: usize,
     n: u64,
     rules: &mut [u32],
     elements: &mut [u32],
 ) -> Read
-    ensures { λ r. ⌜ RulesFill product (now (s .entry)) n (now (rules .entry)) (now (rules .exit)) (now (elements .entry)) (now (elements .exit)) r ⌝ }
+    ensures { λ r. ⌜ RulesFill product (now (s .entry)) base n (now (rules .entry)) (now (rules .exit)) (now (elements .entry)) (now (elements .exit)) r ⌝ }
 {
     if 60000 < s.len() {
         return Read::No(60000, Fault::Long);
+    }
+    if s.len() < base {
+        return Read::No(base, Fault::Cut);
     }
     if 256 < n {
         return Read::No(5, Fault::Count);
     }
     let mut i = 0;
-    let mut p: usize = 7;
+    let mut p = base;
     let mut k: usize = 0;
     while i < n {
         let r = fill_rule(s, p, product, i, rules, elements, k);

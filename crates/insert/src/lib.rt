@@ -2,6 +2,7 @@
 use format::Fault;
 use format::Outcome;
 use format::Read;
+use spot::Site;
 use spot::Spot;
 ghost use mathlib.Core.Path.{_≡_};
 ghost use Prim.Native.Nat.{_+_, _-_, _≤_, _<_};
@@ -28,107 +29,66 @@ fn put_rule(buf: &mut [u8], at: usize, front: &[u8], count: &[u8], els: &[u8], i
     buffer::put_bytes(buf, head + long, els);
 }
 
-// The rule of these parts at place k of m, which starts at a; the buffer has room for it.
-fn put_copy(
-    buf: &mut [u8],
-    n: usize,
-    k: u64,
-    m: u64,
-    a: usize,
-    b: usize,
-    len: usize,
-    front: &[u8],
-    count: &[u8],
-    els: &[u8],
-)
-    requires { ⌜ Sizes n k m a b (now buf) (now front) (now count) (now els) × (len ≡ copySize (now front) (now els) k) × (len ≤ 200000) × (n + (len - lost k m) ≤ length (now buf)) ⌝ }
-    ensures { λ _. ⌜ Copied n k m a b (now (front .entry)) (now (count .entry)) (now (els .entry)) (now (buf .entry)) (now (buf .exit)) ⌝ }
+// The rule of these parts at place k, the place that was found; the buffer has room for it.
+fn put_copy(buf: &mut [u8], f: Site, k: u64, len: usize, front: &[u8], count: &[u8], els: &[u8])
+    requires { ⌜ Sizes f k (now buf) (now front) (now count) (now els) × (len ≡ copySize (now front) (now els) k) × (len ≤ 200000) × (f .bytes + (len - lost k (f .rules)) ≤ length (now buf)) ⌝ }
+    ensures { λ _. ⌜ Copied f k (now (front .entry)) (now (count .entry)) (now (els .entry)) (now (buf .entry)) (now (buf .exit)) ⌝ }
 {
-    place::open_place(buf, n, k, m, a, b, len);
-    put_rule(buf, a, front, count, els, k);
-    buffer::put_number(buf, 5, 2, m + 1);
+    place::open_place(buf, f, k, len);
+    put_rule(buf, f.start, front, count, els, k);
 }
 
 // The same, with 18, 19, 20 judged.
-fn copy_rule(
-    buf: &mut [u8],
-    n: usize,
-    k: u64,
-    m: u64,
-    a: usize,
-    b: usize,
-    front: &[u8],
-    count: &[u8],
-    els: &[u8],
-) -> Outcome
-    requires { ⌜ Sizes n k m a b (now buf) (now front) (now count) (now els) ⌝ }
-    ensures { λ r. ⌜ Inserts n k m a b (now (front .entry)) (now (count .entry)) (now (els .entry)) (now (buf .entry)) r (now (buf .exit)) ⌝ }
+fn copy_rule(buf: &mut [u8], f: Site, k: u64, front: &[u8], count: &[u8], els: &[u8]) -> Outcome
+    requires { ⌜ Sizes f k (now buf) (now front) (now count) (now els) ⌝ }
+    ensures { λ r. ⌜ Inserts f k (now (front .entry)) (now (count .entry)) (now (els .entry)) (now (buf .entry)) r (now (buf .exit)) ⌝ }
 {
     let len = front.len() + 6 + head::head_size(k) + els.len();
-    let new = n + (len - place::lost_at(k, m));
-    let o = room::room_for(m + 1, new, buf.len());
+    let n = f.bytes + (len - place::lost_at(k, f.rules));
+    let o = room::room_for(f.rules + 1, n, buf.len());
     let Outcome::Done(_) = o else {
         return o;
     };
-    put_copy(buf, n, k, m, a, b, len, front, count, els);
+    put_copy(buf, f, k, len, front, count, els);
+    plan::finish(buf, f, f.rules + 1, n);
     o
 }
 
-// A copy of rule j of q of the second deck, which stands from c to e there.
-fn insert_copy(
-    buf: &mut [u8],
-    n: usize,
-    k: u64,
-    m: u64,
-    a: usize,
-    b: usize,
-    second: &[u8],
-    j: u64,
-    q: u64,
-    c: usize,
-    e: usize,
-) -> Outcome
-    requires { ⌜ Within n m a b (now buf) × (a + lost k m ≤ n) × Copyable (now second) j q c e ⌝ }
-    ensures { λ r. ⌜ Copies n k m a b (now (second .entry)) j q c e (now (buf .entry)) r (now (buf .exit)) ⌝ }
+// A copy of rule j of the second deck, where g was found.
+fn insert_copy(buf: &mut [u8], f: Site, k: u64, second: &[u8], g: Site, j: u64) -> Outcome
+    requires { ⌜ Within f (now buf) × (f .start + lost k (f .rules) ≤ f .bytes) × Copyable (now second) j g ⌝ }
+    ensures { λ r. ⌜ Copies f k (now (second .entry)) j g (now (buf .entry)) r (now (buf .exit)) ⌝ }
 {
-    if m < k {
+    if f.rules < k {
         return Outcome::No(Fault::Absent, 0);
     }
-    if q <= j {
+    if g.rules <= j {
         return Outcome::No(Fault::Absent, 1);
     }
-    let t = steps::name_end(second, c);
+    let start = g.start;
+    let end = g.end;
+    let t = steps::name_end(second, start);
     let Read::Got(name, _) = t else {
         return format::in_given(format::end_says(t));
     };
     let size = name + 20;
     let first = size + 6 + head::head_size(j);
-    let front = &second[c..size];
+    let front = &second[start..size];
     let count = &second[size + 4..size + 6];
-    let els = &second[first..e];
-    copy_rule(buf, n, k, m, a, b, front, count, els)
+    let els = &second[first..end];
+    copy_rule(buf, f, k, front, count, els)
 }
 
 // The second deck judged, then the rest.
-fn insert_from(
-    edition: u64,
-    buf: &mut [u8],
-    n: usize,
-    k: u64,
-    m: u64,
-    a: usize,
-    b: usize,
-    second: &[u8],
-    j: u64,
-) -> Outcome
-    requires { ⌜ Within n m a b (now buf) × (a + lost k m ≤ n) ⌝ }
-    ensures { λ r. ⌜ Makes edition (λ rs. k) n m a b (insert k (now (second .entry)) j) (now (buf .entry)) r (now (buf .exit)) ⌝ }
+fn insert_from(edition: u64, buf: &mut [u8], f: Site, k: u64, second: &[u8], j: u64) -> Outcome
+    requires { ⌜ Within f (now buf) × (f .start + lost k (f .rules) ≤ f .bytes) ⌝ }
+    ensures { λ r. ⌜ Makes edition (λ rs. k) f (insert k (now (second .entry)) j) (now (buf .entry)) r (now (buf .exit)) ⌝ }
 {
-    let f = locate::locate(edition, second, j);
-    let Spot::Is(q, c, e) = f else {
-        return format::in_given(spot::spot_says(f));
+    let h = locate::locate(edition, second, j);
+    let Spot::Is(g) = h else {
+        return format::in_given(spot::spot_says(h));
     };
-    insert_copy(buf, n, k, m, a, b, second, j, q, c, e)
+    insert_copy(buf, f, k, second, g, j)
 }
 
 // A copy of rule j of a second deck is inserted at place k.
@@ -136,8 +96,8 @@ pub fn insert(edition: u64, buf: &mut [u8], n: usize, k: u64, second: &[u8], j: 
     ensures { λ r. ⌜ Edits edition n (insert k (now (second .entry)) j) (now (buf .entry)) r (now (buf .exit)) ⌝ }
 {
     let f = plan::find(edition, buf, n, k);
-    let Spot::Is(m, a, b) = f else {
+    let Spot::Is(site) = f else {
         return spot::spot_says(f);
     };
-    insert_from(edition, buf, n, k, m, a, b, second, j)
+    insert_from(edition, buf, site, k, second, j)
 }

@@ -1,28 +1,43 @@
 // Where a rule of a deck stands: the deck is judged by one pass, and the rules before it are stepped over.
 use format::Read;
 use scan::Scan;
+use spot::Site;
 use spot::Spot;
 ghost use mathlib.Core.Path.{_≡_};
 ghost use Rattle.deck.specs.Deck.{readDeck};
 ghost use Rattle.locate.specs.Laws.Located.{located, lastOf};
 ghost use Rattle.locate.specs.Laws.Spots.{Spots};
 
-// Where rule k of a sound deck of n rules stands.
-fn spot_of(s: &[u8], n: u64, k: u64) -> Spot
-    ensures { λ r. ⌜ Spots (now (s .entry)) n k r ⌝ }
+// Where rule k of a sound deck of n rules stands, which start at base.
+fn spot_of(s: &[u8], version: u64, base: usize, n: u64, k: u64) -> Spot
+    ensures { λ r. ⌜ Spots (now (s .entry)) version base n k r ⌝ }
 {
     if n <= k {
-        return Spot::Is(n, s.len(), s.len());
+        return Spot::Is(Site {
+            bytes: s.len(),
+            version,
+            rules: n,
+            base,
+            start: s.len(),
+            end: s.len(),
+        });
     }
-    let f = steps::start_of(s, k);
-    let Read::Got(a, _) = f else {
+    let f = steps::start_of(s, base, k);
+    let Read::Got(start, _) = f else {
         return spot::no_spot(format::end_says(f));
     };
-    let e = steps::end_of(s, a);
-    let Read::Got(b, _) = e else {
+    let e = steps::end_of(s, start);
+    let Read::Got(end, _) = e else {
         return spot::no_spot(format::end_says(e));
     };
-    Spot::Is(n, a, b)
+    Spot::Is(Site {
+        bytes: s.len(),
+        version,
+        rules: n,
+        base,
+        start,
+        end,
+    })
 }
 
 // Where rule k of a deck stands.
@@ -30,10 +45,10 @@ pub fn locate(edition: u64, s: &[u8], k: u64) -> Spot
     ensures { λ r. ⌜ r ≡ located (λ rs. k) (readDeck edition (now (s .entry))) ⌝ }
 {
     let c = deck::pass(edition, s);
-    let Scan::Is(n, _) = c else {
+    let Scan::Is(version, base, n, _) = c else {
         return spot::no_spot(scan::scan_says(c));
     };
-    spot_of(s, n, k)
+    spot_of(s, version, base, n, k)
 }
 
 // Where the last rule of a deck stands.
@@ -41,11 +56,11 @@ pub fn last(edition: u64, s: &[u8]) -> Spot
     ensures { λ r. ⌜ r ≡ located lastOf (readDeck edition (now (s .entry))) ⌝ }
 {
     let c = deck::pass(edition, s);
-    let Scan::Is(n, _) = c else {
+    let Scan::Is(version, base, n, _) = c else {
         return spot::no_spot(scan::scan_says(c));
     };
     if n == 0 {
-        return spot_of(s, 0, 0);
+        return spot_of(s, version, base, 0, 0);
     }
-    spot_of(s, n, n - 1)
+    spot_of(s, version, base, n, n - 1)
 }

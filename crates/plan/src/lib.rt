@@ -1,10 +1,12 @@
-// What every edit begins with: its deck found in its buffer.
+// What every edit begins with, its deck found in its buffer; and what it ends with where the number of rules has changed.
 use format::Fault;
 use kind::Edition;
+use spot::Site;
 use spot::Spot;
 ghost use mathlib.Core.Path.{_≡_};
 ghost use Rattle.locate.specs.Laws.Located.{lastOf};
 ghost use Rattle.plan.specs.Laws.Found.{found};
+ghost use Rattle.plan.specs.Laws.Finish.{Finishes};
 
 // The deck in the first n bytes of a buffer, and where its rule k stands: 1, 15, 2 to 13.
 pub fn find(edition: u64, buf: &[u8], n: usize, k: u64) -> Spot
@@ -34,4 +36,12 @@ pub fn find_last(edition: u64, buf: &[u8], n: usize) -> Spot
     }
     let deck = &buf[..n];
     locate::last(edition, deck)
+}
+
+// The rules of the edited list, so many, stand to n behind what stood before those that were found; the length of their deck.
+pub fn finish(buf: &mut [u8], f: Site, rules: u64, n: usize) -> usize
+    ensures { λ r. ⌜ Finishes f rules n (now (buf .entry)) r (now (buf .exit)) ⌝ }
+{
+    buffer::put_number(buf, 5, 2, rules);
+    n
 }

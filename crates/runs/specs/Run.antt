@@ -1,4 +1,4 @@
--- A run of edits, of a buffer and of a list of rules: document 01, "Edits and building".
+-- A run of edits, of a buffer and of a deck: document 01, "Edits and building".
 use Prim.Native.Nat.{ℕ, max}
 use mathlib.Core.Path.{_≡_}
 use mathlib.Core.List.{List, [], _∷_}
@@ -10,11 +10,11 @@ use Rattle.format.specs.Format.{Answer, got, refused}
 use Rattle.kind.specs.declared.Edition.{Edition}
 use Rattle.kind.specs.declared.Edition.the-variants as Edition
 use Rattle.kind.specs.Kinds.{editionOf}
-use Rattle.rule.specs.Rule.{Rule}
-use Rattle.deck.specs.Deck.{readAs}
-use Rattle.deck.specs.Written.{written}
+use Rattle.kind.specs.declared.Product.{Product}
+use Rattle.deck.specs.Deck.{Deck, readAs}
+use Rattle.deck.specs.Written.{afresh}
 use Rattle.buffer.specs.Laid.{laid}
-use Rattle.plan.specs.Edit.{Edit, Plan, become, refuse, refuseGiven, edited, inRoom, planned, says, leaves, Edits}
+use Rattle.plan.specs.Edit.{Edit, Plan, become, refuse, refuseGiven, edited, inVersion, inRoom, planned, says, leaves, Edits}
 use Rattle.plan.specs.Handed.{Handed}
 
 -- a buffer, and the length of the deck in it
@@ -32,7 +32,7 @@ lengthFrom n (Outcome.No c q) = n
 lengthFrom n (Outcome.Given c q) = n
 
 -- what the promise of every edit says of a buffer, and of a run of them
-abbrev pub stepBy : Plan → Buffer → Buffer
+abbrev pub stepBy : Plan Deck → Buffer → Buffer
 stepBy q b = (leaves (b .1) (b .0) q, lengthFrom (b .1) (says q))
 
 unfoldable pub step : Call → Buffer → Buffer
@@ -55,23 +55,27 @@ module _ {A : Type 0} (P : Promise A) (next : ℕ → A → ℕ) where
 abbrev pub Called : Promise Outcome
 Called edition n e d r d′ = Handed e × Edits edition n e d r d′
 
--- ---- the same of a list of rules and the longest deck length so far: no byte is moved
+-- ---- the same of a deck, its version and its rules, and the longest deck length so far: no byte is moved
 abbrev pub Rules : Type 0
-Rules = List Rule × ℕ
+Rules = Deck × ℕ
 
-abbrev pub taken : Plan → Rules → Rules
-taken (become rs) l = (rs, max (l .1) (length (written rs)))
+abbrev pub taken : Plan Deck → Rules → Rules
+taken (become k) l = (k, max (l .1) (length (afresh k)))
 taken (refuse c q) l = l
 taken (refuseGiven c q) l = l
 
--- the edition takes the edit where it accepts the deck of the list
-abbrev pub ifAccepted : Answer (List Rule) → Plan → Plan
-ifAccepted (got rs n) q = q
+-- the edition takes the edit where it accepts the deck
+abbrev pub ifAccepted : Answer Deck → Plan Deck → Plan Deck
+ifAccepted (got k n) q = q
 ifAccepted (refused c o) q = refuse c o
 
-abbrev pub planRules : Edition → ℕ → Edit → List Rule → Plan
-planRules (Edition.Of p) cap e rs = ifAccepted (readAs p (written rs)) (inRoom cap (edited p e rs))
-planRules Edition.Unknown cap e rs = refuse Fault.Edition 0
+-- an edit of its rules; its version stays
+abbrev pub planIn : Product → ℕ → Edit → Deck → Plan Deck
+planIn p cap e k = inRoom cap (inVersion (k .version) (edited p e (k .rules)))
+
+abbrev pub planRules : Edition → ℕ → Edit → Deck → Plan Deck
+planRules (Edition.Of p) cap e k = ifAccepted (readAs p (afresh k)) (planIn p cap e k)
+planRules Edition.Unknown cap e k = refuse Fault.Edition 0
 
 unfoldable pub stepRules : ℕ → Call → Rules → Rules
 stepRules cap c l = taken (planRules (editionOf (c .0)) cap (c .1) (l .0)) l
@@ -80,6 +84,6 @@ unfoldable pub runRules : ℕ → List Call → Rules → Rules
 runRules cap [] l = l
 runRules cap (c ∷ cs) l = runRules cap cs (stepRules cap c l)
 
--- the buffer d with a list of rules laid in it: the deck written afresh, zeros up to the longest length so far, the rest as found
+-- the buffer d with a deck laid in it: the deck written afresh, zeros up to the longest length so far, the rest as found
 abbrev pub bufferWith : List ℕ → Rules → Buffer
-bufferWith d l = (laid (written (l .0)) (l .1) d, length (written (l .0)))
+bufferWith d l = (laid (afresh (l .0)) (l .1) d, length (afresh (l .0)))

@@ -6,5 +6,5 @@ use Rattle.scan.specs.declared.Scan.the-variants as Scan
 
 -- the answer as document 01 has it
 abbrev pub scanSays : Scan → Outcome
-scanSays (Scan.Is n e) = Done n
+scanSays (Scan.Is v b n e) = Done n
 scanSays (Scan.No c p) = No c p

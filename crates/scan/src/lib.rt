@@ -5,9 +5,9 @@ ghost use mathlib.Core.Path.{_≡_};
 ghost use Rattle.scan.specs.Scan.{scanSays};
 ghost use Rattle.scan.specs.Laws.Scan.{noScan};
 
-// What a pass over a deck tells: the number of rules and that of their elements; or a fault with its place.
+// What a pass over a deck tells: its version, where the rules start, their number and that of their elements; or a fault with its place.
 pub enum Scan {
-    Is(u64, u64),
+    Is(u64, usize, u64, u64),
     No(Fault, usize),
 }
 
@@ -16,7 +16,7 @@ pub fn scan_says(c: Scan) -> Outcome
     ensures { λ r. ⌜ r ≡ scanSays c ⌝ }
 {
     match c {
-        Scan::Is(n, _) => Outcome::Done(n as usize),
+        Scan::Is(_, _, n, _) => Outcome::Done(n as usize),
         Scan::No(d, p) => Outcome::No(d, p),
     }
 }
@@ -26,7 +26,7 @@ pub fn no_scan(o: Outcome) -> Scan
     ensures { λ r. ⌜ r ≡ noScan o ⌝ }
 {
     match o {
-        Outcome::Done(_) => Scan::Is(0, 0),
+        Outcome::Done(_) => Scan::Is(0, 0, 0, 0),
         Outcome::No(c, p) => Scan::No(c, p),
         Outcome::Given(c, p) => Scan::No(c, p),
     }

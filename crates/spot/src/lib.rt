@@ -4,9 +4,19 @@ use format::Outcome;
 ghost use mathlib.Core.Path.{_≡_};
 ghost use Rattle.spot.specs.Laws.Spot.{spotSays, noSpot};
 
-// The number of rules, where rule k starts and where it ends; past the last rule both are the end of the deck.
+// What was found of a deck: its bytes, its version, the number of its rules, where the first of them starts, where the rule that was
+// asked for starts and where it ends; past the last rule both are the end of the deck.
+pub struct Site {
+    pub bytes: usize,
+    pub version: u64,
+    pub rules: u64,
+    pub base: usize,
+    pub start: usize,
+    pub end: usize,
+}
+
 pub enum Spot {
-    Is(u64, usize, usize),
+    Is(Site),
     No(Fault, usize),
 }
 
@@ -15,7 +25,7 @@ pub fn spot_says(f: Spot) -> Outcome
     ensures { λ r. ⌜ r ≡ spotSays f ⌝ }
 {
     match f {
-        Spot::Is(_, _, _) => Outcome::Done(0),
+        Spot::Is(_) => Outcome::Done(0),
         Spot::No(c, p) => Outcome::No(c, p),
     }
 }
@@ -25,7 +35,14 @@ pub fn no_spot(o: Outcome) -> Spot
     ensures { λ r. ⌜ r ≡ noSpot o ⌝ }
 {
     match o {
-        Outcome::Done(_) => Spot::Is(0, 0, 0),
+        Outcome::Done(_) => Spot::Is(Site {
+            bytes: 0,
+            version: 0,
+            rules: 0,
+            base: 0,
+            start: 0,
+            end: 0,
+        }),
         Outcome::No(c, p) => Spot::No(c, p),
         Outcome::Given(c, p) => Spot::No(c, p),
     }

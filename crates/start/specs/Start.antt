@@ -10,6 +10,6 @@ use Rattle.room.specs.Room.{roomFor}
 abbrev pub startSays : ℕ → Outcome
 startSays = roomFor 0 7
 
--- "writes its first 7 bytes, touches no other": the deck of no rules, where there is room for it
+-- "writes its first 7 bytes, touches no other": the deck of no rules in version 1, where there is room for it
 unfoldable pub startLeaves : List ℕ → List ℕ
-startLeaves d = putIn d 0 (written [])
+startLeaves d = putIn d 0 (written 1 [])

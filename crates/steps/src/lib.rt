@@ -35,12 +35,12 @@ pub fn end_of(s: &[u8], at: usize) -> Read
     Read::Got(p + size as usize, 0)
 }
 
-// Where rule k of a sound deck starts.
-pub fn start_of(s: &[u8], k: u64) -> Read
-    ensures { λ r. ⌜ Reached (now (s .entry)) k k r ⌝ }
+// Where rule k of a sound deck starts, whose rules start at a place.
+pub fn start_of(s: &[u8], base: usize, k: u64) -> Read
+    ensures { λ r. ⌜ Reached (now (s .entry)) base k k r ⌝ }
 {
     let mut i = 0;
-    let mut p = 7;
+    let mut p = base;
     while i < k {
         let r = end_of(s, p);
         let Read::Got(q, _) = r else {

@@ -2,24 +2,25 @@
 use format::Fault;
 use format::Outcome;
 use format::Read;
+use spot::Site;
 use spot::Spot;
 ghost use Prim.Native.Nat.{ℕ};
 ghost use Rattle.plan.specs.Edit.{switch, Edits};
 ghost use Rattle.plan.specs.Laws.Found.{Makes};
 
-// Rule k of m, which stands from a to b.
-fn switch_at(buf: &mut [u8], n: usize, k: u64, m: u64, a: usize, b: usize, on: bool) -> Outcome
-    ensures { λ r. ⌜ ((edition : ℕ) → Makes edition (λ rs. k) n m a b (switch k on) (now (buf .entry)) r (now (buf .exit))) ⌝ }
+// Rule k of the deck that was found.
+fn switch_at(buf: &mut [u8], f: Site, k: u64, on: bool) -> Outcome
+    ensures { λ r. ⌜ ((edition : ℕ) → Makes edition (λ rs. k) f (switch k on) (now (buf .entry)) r (now (buf .exit))) ⌝ }
 {
-    if m <= k {
+    if f.rules <= k {
         return Outcome::No(Fault::Absent, 0);
     }
-    let t = steps::name_end(buf, a);
+    let t = steps::name_end(buf, f.start);
     let Read::Got(e, _) = t else {
         return format::end_says(t);
     };
     buffer::put_flag(buf, e, on);
-    Outcome::Done(n)
+    Outcome::Done(f.bytes)
 }
 
 // Rule k is switched on or off.
@@ -27,8 +28,8 @@ pub fn switch(edition: u64, buf: &mut [u8], n: usize, k: u64, on: bool) -> Outco
     ensures { λ r. ⌜ Edits edition n (switch k on) (now (buf .entry)) r (now (buf .exit)) ⌝ }
 {
     let f = plan::find(edition, buf, n, k);
-    let Spot::Is(m, a, b) = f else {
+    let Spot::Is(site) = f else {
         return spot::spot_says(f);
     };
-    switch_at(buf, n, k, m, a, b, on)
+    switch_at(buf, site, k, on)
 }

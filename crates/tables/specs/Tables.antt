@@ -11,8 +11,8 @@ use Rattle.format.specs.Row.{total}
 use Rattle.kind.specs.declared.Product.{Product}
 use Rattle.kind.specs.declared.Edition.{Edition}
 use Rattle.kind.specs.declared.Edition.the-variants as Edition
-use Rattle.rule.specs.Rule.{Rule, elementsIn}
-use Rattle.deck.specs.Deck.{readAs}
+use Rattle.rule.specs.Rule.{elementsIn}
+use Rattle.deck.specs.Deck.{Deck, baseOf, readAs}
 use Rattle.fill.specs.Rows.{ruleWidth, elementWidth, ruleRows, allElementRows}
 use Rattle.buffer.specs.Laid.{put}
 
@@ -21,20 +21,19 @@ unfoldable pub inTables : ℕ → ℕ → ℕ → ℕ → Outcome
 inTables n m rules elements = pick (leb (ruleWidth * n) rules) (pick (leb (elementWidth * m) elements) (Done n) (No Fault.Table 1)) (No Fault.Table 0)
 
 -- what a read answers
-abbrev pub tabled : ℕ → ℕ → Answer (List Rule) → Outcome
-tabled rules elements (got rs n) = inTables (length rs) (total elementsIn rs) rules elements
+abbrev pub tabled : ℕ → ℕ → Answer Deck → Outcome
+tabled rules elements (got k n) = inTables (length (k .rules)) (total elementsIn (k .rules)) rules elements
 tabled rules elements (refused c q) = No c q
 
--- the tables at exit: where the read is done the rows put at their start, "Later entries stay as they were"; else as found. The rules start behind the 7
--- bytes of the header
-abbrev pub rulesLeft : Product → Outcome → Answer (List Rule) → List ℕ → List ℕ
-rulesLeft p (Done n) (got rs m) t = put t 0 (ruleRows p 0 7 rs)
+-- the tables at exit: where the read is done the rows put at their start, "Later entries stay as they were"; else as found
+abbrev pub rulesLeft : Product → Outcome → Answer Deck → List ℕ → List ℕ
+rulesLeft p (Done n) (got k m) t = put t 0 (ruleRows p 0 (baseOf (k .version) (length (k .rules))) (k .rules))
 rulesLeft p (Done n) (refused c q) t = t
 rulesLeft p (No c q) a t = t
 rulesLeft p (Given c q) a t = t
 
-abbrev pub elementsLeft : Product → Outcome → Answer (List Rule) → List ℕ → List ℕ
-elementsLeft p (Done n) (got rs m) t = put t 0 (allElementRows p 0 7 rs)
+abbrev pub elementsLeft : Product → Outcome → Answer Deck → List ℕ → List ℕ
+elementsLeft p (Done n) (got k m) t = put t 0 (allElementRows p 0 (baseOf (k .version) (length (k .rules))) (k .rules))
 elementsLeft p (Done n) (refused c q) t = t
 elementsLeft p (No c q) a t = t
 elementsLeft p (Given c q) a t = t

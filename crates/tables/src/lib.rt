@@ -33,14 +33,14 @@ pub fn read(edition: u64, s: &[u8], rules: &mut [u32], elements: &mut [u32]) -> 
         return Outcome::No(Fault::Edition, 0);
     };
     let scan = deck::pass(edition, s);
-    let Scan::Is(n, m) = scan else {
+    let Scan::Is(_, base, n, m) = scan else {
         return scan::scan_says(scan);
     };
     let o = room(n, m, rules.len(), elements.len());
     let Outcome::Done(_) = o else {
         return o;
     };
-    let r = fill::fill_rules(s, product, n, rules, elements);
+    let r = fill::fill_rules(s, product, base, n, rules, elements);
     let Read::Got(_, _) = r else {
         return format::end_says(r);
     };

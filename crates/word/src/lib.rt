@@ -4,6 +4,7 @@ use format::Outcome;
 use format::Read;
 use kind::Edition;
 use kind::Product;
+use spot::Site;
 use spot::Spot;
 ghost use Prim.Native.Nat.{_≤_, _<_};
 ghost use mathlib.Core.Path.{_≡_};
@@ -12,7 +13,7 @@ ghost use lib.ListN.{length};
 ghost use Rattle.locate.specs.Laws.Located.{lastOf};
 ghost use Rattle.given.specs.Given.{isText};
 ghost use Rattle.plan.specs.Edit.{addWord, Edits};
-ghost use Rattle.plan.specs.Laws.Found.{MakesAs};
+ghost use Rattle.plan.specs.Laws.Found.{MakesAs, Within};
 ghost use Rattle.word.specs.Laws.Word.{Lengthens};
 
 // To the list of count words, a number that stands at t, in the last of m rules, whose name ends at e.
@@ -44,19 +45,19 @@ fn lengthen(
     o
 }
 
-// To the last of m rules, which starts at a.
-fn word_in(buf: &mut [u8], n: usize, product: Product, word: &[u8], m: u64, a: usize) -> Outcome
-    requires { ⌜ (a ≤ length (now buf)) × (n ≤ 60000) ⌝ }
-    ensures { λ r. ⌜ MakesAs product lastOf n m a (addWord (now (word .entry))) (now (buf .entry)) r (now (buf .exit)) ⌝ }
+// To the last rule, the one that was found.
+fn word_in(buf: &mut [u8], f: Site, product: Product, word: &[u8]) -> Outcome
+    requires { ⌜ Within f (now buf) ⌝ }
+    ensures { λ r. ⌜ MakesAs product lastOf f (addWord (now (word .entry))) (now (buf .entry)) r (now (buf .exit)) ⌝ }
 {
-    if m == 0 {
+    if f.rules == 0 {
         return Outcome::No(Fault::Last, 0);
     }
-    let r = steps::name_end(buf, a);
+    let r = steps::name_end(buf, f.start);
     let Read::Got(e, _) = r else {
         return format::end_says(r);
     };
-    let l = list::list_at(buf, a, product, m - 1);
+    let l = list::list_at(buf, f.start, product, f.rules - 1);
     let Read::Got(t, count) = l else {
         return format::end_says(l);
     };
@@ -67,7 +68,7 @@ fn word_in(buf: &mut [u8], n: usize, product: Product, word: &[u8], m: u64, a: u
     if !text {
         return Outcome::No(Fault::Text, 0);
     }
-    lengthen(buf, n, m, e, t, count, word)
+    lengthen(buf, f.bytes, f.rules, e, t, count, word)
 }
 
 // A word is added to the list that is the last element of the last rule.
@@ -79,8 +80,8 @@ pub fn add_word(edition: u64, buf: &mut [u8], n: usize, word: &[u8]) -> Outcome
         return Outcome::No(Fault::Edition, 0);
     };
     let f = plan::find_last(edition, buf, n);
-    let Spot::Is(m, a, _) = f else {
+    let Spot::Is(site) = f else {
         return spot::spot_says(f);
     };
-    word_in(buf, n, product, word, m, a)
+    word_in(buf, site, product, word)
 }

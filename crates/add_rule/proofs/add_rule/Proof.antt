@@ -15,7 +15,7 @@ rule-in-requires : tie.Need-rule-in-requires
 rule-in-requires c κs = let o = c .before .before .before .before .before .before .before .before .before .before .before .before .before in let w = found-within lastOf _ _ _ (bytes-all (o .args .buf .now) (c .before .before .before .before .before .before .before .before .before .before .before .before .slice-known .given)) (c .before .before .before .before .find-last .ensures) (c .before .before .f .given .1) in (w .short, w .few)
 
 returns-3 : tie.Need-returns-3
-returns-3 c = edit-made _ _ _ _ _ (bytes-all (c .before .before .before .before .before .before .before .before .before .before .before .before .before .before .before .before .args .buf .now) (c .before .before .before .before .before .before .before .before .before .before .before .before .before .before .before .slice-known .given)) (c .before .before .before .before .before .before .before .find-last .ensures) (c .before .before .before .before .before .f .given .1) (c .before .before .before .before .before .before .before .before .before .before .before .before .edition-of .ensures) (c .before .before .before .before .before .before .before .before .before .before .o .given .1) (c .before .before .rule-in .ensures _)
+returns-3 c = edit-made _ _ _ _ _ (bytes-all (c .before .before .before .before .before .before .before .before .before .before .before .before .before .before .before .before .args .buf .now) (c .before .before .before .before .before .before .before .before .before .before .before .before .before .before .before .slice-known .given)) (c .before .before .before .before .before .before .before .find-last .ensures) (c .before .before .before .before .before .f .given .1) (c .before .before .before .before .before .before .before .before .before .before .before .before .edition-of .ensures) (c .before .before .before .before .before .before .before .before .before .before .o .given .1) (c .before .before .rule-in .ensures)
 
 pub add-rule-spec : {M : Type 1} → statement M
 add-rule-spec =

@@ -1,12 +1,12 @@
 -- A rule added at the end: its bytes behind the deck, and the number of rules written over.
-use Prim.Native.Nat.{ℕ, _+_, _≤_}
+use Prim.Native.Nat.{ℕ, _+_, _≤_, max}
 use native.Mathlib.Omega.{arith}
 use native.Mathlib.Nat.{zero-add}
 use mathlib.Core.Path.{_≡_, refl, sym, ap, _∙_}
 use mathlib.Core.Bool.{true, false}
 use mathlib.Core.List.{List, [], _∷_, _++_, append-assoc, append-nil}
 use lib.ListN.{length, take, length-append}
-use lib.Seq.{length-take-le}
+use lib.Seq.{length-take-le, take-all}
 use Rattle.format.specs.declared.Fault.{Fault}
 use Rattle.format.specs.declared.Fault.the-variants as Fault
 use Rattle.format.specs.declared.Outcome.{Outcome}
@@ -25,21 +25,23 @@ use Rattle.element.specs.Element.{Element}
 use Rattle.rule.specs.declared.Fields.{Fields}
 use Rattle.rule.specs.Rule.{Rule, placed}
 use Rattle.rule.specs.Laws.Parts.{kept, front, back, headBytes, inner, sizeOf}
+use Rattle.deck.specs.Deck.{baseOf}
 use Rattle.deck.specs.Written.{written}
-use Rattle.deck.specs.Laws.Written.{written-is, opening, opening-long, before, rules, rules-cons}
+use Rattle.deck.specs.Laws.Written.{lead, before, before-is, behind-long, written-is, written-long, rules, rules-cons}
 use Rattle.buffer.specs.Laid.{putIn}
 use Rattle.buffer.specs.Laws.Laid.{put-both}
-use Rattle.buffer.specs.Laws.Holds.{Holds, holds-put, holds-behind}
+use Rattle.buffer.specs.Laws.Holds.{Holds, holds-behind}
 use Rattle.locate.specs.Laws.Located.{lastOf}
-use Rattle.steps.specs.Laws.Steps.{Sound}
+use Rattle.spot.specs.declared.Site.{Site}
 use Rattle.given.specs.Given.{isText, textOf, given}
 use Rattle.given.specs.Laws.Element.{first-written}
 use Rattle.plan.specs.Edit.{become, addRule, edited, newRule}
-use Rattle.plan.specs.Laws.Found.{MakesAs, Does}
+use Rattle.plan.specs.Laws.Found.{MakesAs, Does, Sits}
+use Rattle.plan.specs.Laws.Finish.{Finishes, made-finish}
 use Rattle.plan.specs.Laws.Last.{rules-none}
 use Rattle.room.specs.Room.{roomFor}
 use Rattle.room.specs.Laws.Room.{roomy}
-use Rattle.plan.specs.Laws.Makes.{if-text, no-text, at-given, no-given, made-no, made-given, made-out, made-in}
+use Rattle.plan.specs.Laws.Makes.{if-text, no-text, at-given, no-given, made-no, made-given, made-out}
 use Rattle.parts.specs.Laws.Text.{textBytes, textSize, text-size, text-is}
 
 -- ---- the bytes of a new rule
@@ -147,87 +149,88 @@ rule-size : (m : ℕ) (name : List ℕ) (f : Fields) (id : ℕ) (s : List ℕ) �
 unfolding newBytes
 rule-size m name f id s = omega (arith, length-append (frontBytes name f) (backBytes m id s), front-size name f, back-size m id s)
 
--- whatever m rules the sound deck in the first n bytes has: the rule with this name, these fields and the element x, whose bytes these are, is added
-unfoldable pub Extends : ℕ → ℕ → List ℕ → Fields → ℕ → List ℕ → List ℕ → Outcome → List ℕ → Type 0
-Extends n m name f id s d r d′ =
-    (p : Product) (rs : List Rule) (x : Element) → Sound p (take n d) rs → n ≤ length d → m ≡ length rs → placed Studio 0 .write x ≡ spelt 4 id ++ s → textBytes name ≡ string .write (textOf name) → Does n (become (rs ++ (newRule (textOf name) f x ∷ []))) d r d′
+-- whatever rules the deck that was found has: the rule with this name, these fields and the element x, whose bytes these are, is added
+unfoldable pub Extends : Site → List ℕ → Fields → ℕ → List ℕ → List ℕ → Outcome → List ℕ → Type 0
+Extends g name f id s d r d′ =
+    (p : Product) (v : ℕ) (rs : List Rule) (x : Element) → Sits lastOf g d p v rs → placed Studio 0 .write x ≡ spelt 4 id ++ s → textBytes name ≡ string .write (textOf name) → Does v (g .bytes) (become (rs ++ (newRule (textOf name) f x ∷ []))) d r d′
 
-module _ (n m : ℕ) (name : List ℕ) (f : Fields) (id : ℕ) (s d : List ℕ) where
-  added-many : (rs : List Rule) (x : Rule) → length (rs ++ (x ∷ [])) ≡ length rs + 1
-  added-many rs x = length-append rs (x ∷ [])
+module _ (g : Site) (name : List ℕ) (f : Fields) (id : ℕ) (s d : List ℕ) where
+  -- of the deck that is found
+  module _ {p : Product} (v : ℕ) (rs : List Rule) (x : Element) (o : Sits lastOf g d p v rs) where
+    -- the edited list
+    abbrev edits : List Rule
+    edits = rs ++ (newRule (textOf name) f x ∷ [])
 
-  added-written : (rs : List Rule) (x : Element) → m ≡ length rs → placed Studio 0 .write x ≡ spelt 4 id ++ s → textBytes name ≡ string .write (textOf name)
-      → written (rs ++ (newRule (textOf name) f x ∷ [])) ≡ opening ++ (spelt 2 (m + 1) ++ (rules 0 rs ++ newBytes m name f id s))
-  unfolding before newBytes
-  added-written rs x em b t =
-      written-is rs (newRule (textOf name) f x ∷ [])
-      ∙ rw (added-many rs (newRule (textOf name) f x), ← em, rules-cons, rules-none, append-nil, front-is name f x t, back-is m id s x b) (simp append-assoc)
+    many : g .rules + 1 ≡ length edits
+    many = ap (λ (m : ℕ). m + 1) (o .many) ∙ sym (length-append rs (newRule (textOf name) f x ∷ []))
 
-  deck-parts : {p : Product} (rs : List Rule) → Sound p (take n d) rs → take n d ≡ opening ++ (spelt 2 (length rs) ++ rules 0 rs)
-  unfolding before
-  deck-parts rs o =
-      let i = written-is rs [] in
-      let z : rs ++ [] ≡ rs = append-nil rs in
-      o .is ∙ (rw (z, rules-none, append-nil) at i)
+    added-is : placed Studio 0 .write x ≡ spelt 4 id ++ s → textBytes name ≡ string .write (textOf name) → lead v rs ++ rules 0 edits ≡ take (g .bytes) d ++ newBytes (g .rules) name f id s
+    unfolding before newBytes
+    added-is b t =
+        let a : take (length rs) rs ≡ rs = take-all (length rs) rs (omega arith) in
+        let i = before-is v rs (length rs) (newRule (textOf name) f x ∷ []) (omega arith) in
+        (rw a at i) ∙ rw (rules-cons, rules-none, append-nil, front-is name f x t, o .many, back-is (length rs) id s x b, o .sound .is, written-is v rs) refl
 
-  added-long : {p : Product} (rs : List Rule) → Sound p (take n d) rs → n ≤ length d → length (opening ++ (spelt 2 (m + 1) ++ (rules 0 rs ++ newBytes m name f id s))) ≡ n + 34 + length (textBytes name) + length (headBytes m) + length s
-  added-long rs o w =
-      let R = newBytes m name f id s in
-      let q = rules 0 rs in
-      omega (arith, length-append opening (spelt 2 (m + 1) ++ (q ++ R)), length-before 2 (m + 1) (q ++ R), length-append q R, rule-size m name f id s, ap length (deck-parts rs o), length-append opening (spelt 2 (length rs) ++ q), length-before 2 (length rs) q, length-take-le n d w)
+    added-long : placed Studio 0 .write x ≡ spelt 4 id ++ s → textBytes name ≡ string .write (textOf name) → length (lead v rs ++ rules 0 edits) ≡ g .bytes + 34 + length (textBytes name) + length (headBytes (g .rules)) + length s
+    added-long b t = ap length (added-is b t) ∙ omega (arith, length-append (take (g .bytes) d) (newBytes (g .rules) name f id s), rule-size (g .rules) name f id s, length-take-le (g .bytes) d (o .within))
 
-  added-holds : {p : Product} (rs : List Rule) {at : ℕ} {y₁ y₂ y₃ : List ℕ} → Sound p (take n d) rs → n ≤ length d → at ≡ n + 24 + length (textBytes name) → n + 34 + length (textBytes name) + length (headBytes m) + length s ≤ length d
-      → y₁ ≡ putIn d n (frontBytes name f) → y₂ ≡ putIn y₁ at (backBytes m id s) → y₃ ≡ putIn y₂ 5 (spelt 2 (m + 1))
-      → Holds y₃ (opening ++ (spelt 2 (m + 1) ++ (rules 0 rs ++ newBytes m name f id s))) (n + length (newBytes m name f id s)) d
+    -- and of its deck
+    added-written : length (written v edits) ≡ length (lead v rs ++ rules 0 edits)
+    unfolding baseOf
+    added-written = written-long v edits ∙ sym (behind-long v rs edits)
+
+  added-holds : {at : ℕ} {y₁ y₂ : List ℕ} → at ≡ g .bytes + 24 + length (textBytes name) → g .bytes + 34 + length (textBytes name) + length (headBytes (g .rules)) + length s ≤ length d → y₁ ≡ putIn d (g .bytes) (frontBytes name f) → y₂ ≡ putIn y₁ at (backBytes (g .rules) id s)
+      → Holds y₂ (take (g .bytes) d ++ newBytes (g .rules) name f id s) (g .bytes + length (newBytes (g .rules) name f id s)) d
   unfolding newBytes
-  added-holds rs {at} {y₁} {y₂} {y₃} o w ea l e₁ e₂ e₃ =
+  added-holds {at} {y₁} {y₂} ea l e₁ e₂ =
       let F = frontBytes name f in
-      let K = backBytes m id s in
-      let R = F ++ K in
-      let lr = rule-size m name f id s in
+      let K = backBytes (g .rules) id s in
+      let lr = rule-size (g .rules) name f id s in
       let lf = front-size name f in
-      let lk = back-size m id s in
-      let e₂′ : y₂ ≡ putIn d n R = put-both d n F K e₁ e₂ (omega arith) (omega arith) in
-      let i : take n d ++ R ≡ opening ++ (spelt 2 (length rs) ++ (rules 0 rs ++ R)) = rw (deck-parts rs o) (simp append-assoc) in
-      holds-put opening (spelt 2 (length rs)) (rules 0 rs ++ R) (spelt 2 (m + 1)) (holds-behind d n R (omega arith) e₂′) i opening-long (length-spelt 2 (length rs) ∙ sym (length-spelt 2 (m + 1))) e₃
+      let lk = back-size (g .rules) id s in
+      let e₂′ : y₂ ≡ putIn d (g .bytes) (F ++ K) = put-both d (g .bytes) F K e₁ e₂ (omega arith) (omega arith) in
+      holds-behind d (g .bytes) (F ++ K) (omega arith) e₂′
 
   -- size is what a String of the name takes, head the head of the rule, end the new length; o is what 18, 19 and 20 were judged as
-  module _ {size head : ℕ} {o : Outcome} where
-    pub extend-out : isText name ≡ true → size ≡ textSize name → head ≡ length (headBytes m) → o ≡ roomFor (m + 1) (n + 24 + size + 10 + head + length s) (length d) → ((v : ℕ) → o ≡ Outcome.Done v → ⊥) → Extends n m name f id s d o d
+  module _ {size head : ℕ} {q : Outcome} where
+    pub extend-out : isText name ≡ true → size ≡ textSize name → head ≡ length (headBytes (g .rules)) → q ≡ roomFor (g .rules + 1) (g .bytes + 24 + size + 10 + head + length s) (length d) → ((u : ℕ) → q ≡ Outcome.Done u → ⊥) → Extends g name f id s d q d
     unfolding Extends
-    extend-out it z hz j h p rs x i w em b t =
+    extend-out it z hz j h p v rs x o b t =
         let lt = text-size name it in
-        let al = added-long rs i w in
-        let e : n + 24 + size + 10 + head + length s ≡ length (written (rs ++ (newRule (textOf name) f x ∷ []))) = rw (added-written rs x em b t) (omega arith) in
-        made-out n d refl j h (ap (λ (k : ℕ). k + 1) em ∙ sym (added-many rs (newRule (textOf name) f x))) e
+        let al = added-long v rs x o b t in
+        let e : g .bytes + 24 + size + 10 + head + length s ≡ length (written v (edits v rs x o)) = rw (added-written v rs x o) (omega arith) in
+        made-out v (g .bytes) d refl j h (many v rs x o) e
 
-    pub extend-done : {y₁ y₂ y₃ : List ℕ} {v : ℕ} → isText name ≡ true → size ≡ textSize name → head ≡ length (headBytes m) → o ≡ roomFor (m + 1) (n + 24 + size + 10 + head + length s) (length d) → o ≡ Outcome.Done v
-        → y₁ ≡ putIn d n (frontBytes name f) → y₂ ≡ putIn y₁ (n + 24 + size) (backBytes m id s) → y₃ ≡ putIn y₂ 5 (spelt 2 (m + 1)) → Extends n m name f id s d o y₃
+    pub extend-done : {y₁ y₂ : List ℕ} (y₃ : List ℕ) (r : ℕ) {u : ℕ} → isText name ≡ true → size ≡ textSize name → head ≡ length (headBytes (g .rules)) → q ≡ roomFor (g .rules + 1) (g .bytes + 24 + size + 10 + head + length s) (length d) → q ≡ Outcome.Done u
+        → y₁ ≡ putIn d (g .bytes) (frontBytes name f) → y₂ ≡ putIn y₁ (g .bytes + 24 + size) (backBytes (g .rules) id s) → Finishes g (g .rules + 1) (g .bytes + 24 + size + 10 + head + length s) y₂ r y₃ → Extends g name f id s d q y₃
     unfolding Extends
-    extend-done it z hz j h e₁ e₂ e₃ p rs x i w em b t =
+    extend-done y₃ r it z hz j h e₁ e₂ fin p v rs x o b t =
+        let n = g .bytes + 24 + size + 10 + head + length s in
         let lt = text-size name it in
-        let al = added-long rs i w in
-        let lr = rule-size m name f id s in
-        let l = roomy (m + 1) (n + 24 + size + 10 + head + length s) (length d) j h .inside in
-        made-in n d j h (added-holds rs i w (omega arith) (omega arith) e₁ e₂ e₃) refl (sym (added-written rs x em b t)) (omega arith) (omega arith) (ap (λ (k : ℕ). k + 1) em ∙ sym (added-many rs (newRule (textOf name) f x)))
+        let al = added-long v rs x o b t in
+        let lr = rule-size (g .rules) name f id s in
+        let l = roomy (g .rules + 1) n (length d) j h .inside in
+        let hi : g .bytes + length (newBytes (g .rules) name f id s) ≡ max (g .bytes) n = omega arith in
+        let en : n ≡ length (lead v rs ++ rules 0 (edits v rs x o)) = omega arith in
+        made-finish g (g .rules + 1) n n d v rs o r j h fin (rw (hi, ← added-is v rs x o b t) at (added-holds (omega arith) (omega arith) e₁ e₂)) en (omega arith) refl (many v rs x o) (en ∙ sym (added-written v rs x o))
 
 -- ---- what is judged before
 
-module _ (p : Product) (n m : ℕ) (name : List ℕ) (f : Fields) (id : ℕ) (s d : List ℕ) where
-  pub rule-text : (a : ℕ) → isText name ≡ false → MakesAs p lastOf n m a (addRule name f id s) d (Outcome.No Fault.Text 0) d
+module _ (p : Product) (g : Site) (name : List ℕ) (f : Fields) (id : ℕ) (s d : List ℕ) where
+  pub rule-text : isText name ≡ false → MakesAs p lastOf g (addRule name f id s) d (Outcome.No Fault.Text 0) d
   unfolding MakesAs edited
-  rule-text a e rs o w em ea = made-no n d (no-text name _ e)
+  rule-text e v rs o = made-no v (g .bytes) d (no-text name _ e)
 
   module _ {t : Read} where
-    pub rule-given : (a : ℕ) {i r : Outcome} {c : Fault} {q : ℕ} → isText name ≡ true → t ≡ told 0 none (given p id s) → t ≡ Read.No q c → i ≡ endSays t → r ≡ inGiven i → MakesAs p lastOf n m a (addRule name f id s) d r d
+    pub rule-given : {i r : Outcome} {c : Fault} {q : ℕ} → isText name ≡ true → t ≡ told 0 none (given p id s) → t ≡ Read.No q c → i ≡ endSays t → r ≡ inGiven i → MakesAs p lastOf g (addRule name f id s) d r d
     unfolding MakesAs edited
-    rule-given a {c = c} e g h ei er rs o w em ea =
-        let u = told-no 0 none (given p id s) g h in
-        let y = made-given n d (if-text name _ e ∙ no-given _ (u .is ∙ ap (refused c) (sym (u .ends ∙ zero-add (u .o))))) in
+    rule-given {c = c} e a h ei er v rs o =
+        let u = told-no 0 none (given p id s) a h in
+        let y = made-given v (g .bytes) d (if-text name _ e ∙ no-given _ (u .is ∙ ap (refused c) (sym (u .ends ∙ zero-add (u .o))))) in
         (er ∙ ap inGiven (ei ∙ ap endSays h) ∙ y .0, y .1)
 
-    pub rule-done : (r : Outcome) (d′ : List ℕ) (a : ℕ) {v l : ℕ} → Bytes name → Bytes s → isText name ≡ true → t ≡ told 0 none (given p id s) → t ≡ Read.Got l v → Extends n m name f id s d r d′ → MakesAs p lastOf n m a (addRule name f id s) d r d′
+    pub rule-done : (r : Outcome) (d′ : List ℕ) {w l : ℕ} → Bytes name → Bytes s → isText name ≡ true → t ≡ told 0 none (given p id s) → t ≡ Read.Got l w → Extends g name f id s d r d′ → MakesAs p lastOf g (addRule name f id s) d r d′
     unfolding MakesAs edited Extends
-    rule-done r d′ a bn bs e g h x rs o w em ea =
-        let u = told-got 0 none (given p id s) g h in
-        rw (if-text name _ e, at-given _ (u .is)) (x p rs (u .x) o w em (first-written p Studio id s (u .x) (u .n) bs (u .is)) (text-is name bn e))
+    rule-done r d′ bn bs e a h x v rs o =
+        let u = told-got 0 none (given p id s) a h in
+        rw (if-text name _ e, at-given _ (u .is)) (x p v rs (u .x) o (first-written p Studio id s (u .x) (u .n) bs (u .is)) (text-is name bn e))

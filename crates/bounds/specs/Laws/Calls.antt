@@ -23,7 +23,7 @@ use Rattle.element.specs.Data.{wordsOf}
 use Rattle.element.specs.Element.{Element}
 use Rattle.rule.specs.Rule.{Rule, elementsIn}
 use Rattle.scan.specs.Scan.{scanSays}
-use Rattle.deck.specs.Deck.{readAs, readBy, readDeck, answered, scanned}
+use Rattle.deck.specs.Deck.{Deck, readAs, readBy, readDeck, answered, scanned}
 use Rattle.plan.specs.Edit.{Edit, switch, rename, remove, insert, addRule, addElement, addWord, Plan, become, refuse, refuseGiven, planned, says, Edits}
 use Rattle.given.specs.Given.{given}
 use Rattle.plan.specs.Handed.{Handed}
@@ -52,8 +52,8 @@ pub check-listed : (edition : ℕ) (s : List ℕ) → Lists checkNumbers (answer
 unfolding readDeck readBy
 check-listed edition s = by (editionOf edition)
   where
-    read : (p : Product) (a : Answer (List Rule)) → readAs p s ≡ a → Lists checkNumbers (answered a)
-    read p (got rs n) e = tt
+    read : (p : Product) (a : Answer Deck) → readAs p s ≡ a → Lists checkNumbers (answered a)
+    read p (got k n) e = tt
     read p (refused c q) e = faulty-listed [] c q (as-refused Faulty (deck-faulty p s) e)
 
     by : (o : Edition) → Lists checkNumbers (answered (readBy o s))
@@ -64,18 +64,18 @@ check-listed edition s = by (editionOf edition)
 pub pass-listed : (edition : ℕ) (s : List ℕ) → Lists checkNumbers (scanSays (scanned (readDeck edition s)))
 pass-listed edition s = go (readDeck edition s) (check-listed edition s)
   where
-    go : (a : Answer (List Rule)) → Lists checkNumbers (answered a) → Lists checkNumbers (scanSays (scanned a))
-    go (got rs n) f = tt
+    go : (a : Answer Deck) → Lists checkNumbers (answered a) → Lists checkNumbers (scanSays (scanned a))
+    go (got k n) f = tt
     go (refused c q) f = f
 
 pub read-listed : (edition rules elements : ℕ) (s : List ℕ) → Lists readNumbers (readSays (editionOf edition) rules elements s)
 unfolding inTables pick allowed within
 read-listed edition rules elements s = by (editionOf edition)
   where
-    read : (p : Product) (a : Answer (List Rule)) → readAs p s ≡ a → Lists readNumbers (tabled rules elements a)
-    read p (got rs n) e = few (leb (ruleWidth * length rs) rules) (leb (elementWidth * total elementsIn rs) elements)
+    read : (p : Product) (a : Answer Deck) → readAs p s ≡ a → Lists readNumbers (tabled rules elements a)
+    read p (got k n) e = few (leb (ruleWidth * length (k .rules)) rules) (leb (elementWidth * total elementsIn (k .rules)) elements)
       where
-        few : (x y : Bool) → Lists readNumbers (pick x (pick y (Outcome.Done (length rs)) (Outcome.No Fault.Table 1)) (Outcome.No Fault.Table 0))
+        few : (x y : Bool) → Lists readNumbers (pick x (pick y (Outcome.Done (length (k .rules))) (Outcome.No Fault.Table 1)) (Outcome.No Fault.Table 0))
         few true true = tt
         few true false = (refl, omega arith)
         few false y = (refl, omega arith)
@@ -98,8 +98,8 @@ module _ {W : Type 0} (no : Fault → ℕ → W) (f : Product → ℕ → Rule �
       first p at [] = says-no Fault.Absent 0 (absent-listed last 0 (omega arith) (omega arith))
       first p at (r ∷ rs) = there p at r
 
-      read : (p : Product) (a : Answer (List Rule)) → readAs p s ≡ a → Q (askedOf no f k p a)
-      read p (got rs n) e = first p _ (drop k rs)
+      read : (p : Product) (a : Answer Deck) → readAs p s ≡ a → Q (askedOf no f k p a)
+      read p (got d n) e = first p _ (drop k (d .rules))
       read p (refused c q) e = says-no c q (faulty-listed (numbers 16 16 last ∷ []) c q (as-refused Faulty (deck-faulty p s) e))
 
       by : (o : Edition) → Q (askedBy no f k o s)
@@ -175,7 +175,7 @@ unfolding says
 edit-listed edition n e d h f =
     rw (f .0) (go (planned edition n d e) (only-planned (OwnListed e) (GivenListed e) edition n d e (owns-listed e) (λ p i. (refused-as (OwnListed e) (readAs p (take n d)) (λ c q z. faulty-listed (laterNumbers e) c q (as-refused Faulty (deck-faulty p (take n d)) z)), given-listed p e (givenTo e) (gift-allowed e) (given-bytes e h)))))
   where
-    go : (x : Plan) → Only NotLarge (OwnListed e) (GivenListed e) x → Lists (editNumbers e) (says x)
-    go (become rs) f = tt
+    go : (x : Plan Deck) → Only NotLarge (OwnListed e) (GivenListed e) x → Lists (editNumbers e) (says x)
+    go (become x) f = tt
     go (refuse c q) f = f
     go (refuseGiven c q) f = f

@@ -118,7 +118,7 @@ module _ (P : Fault → Type 0) where
   unfolding Gives each
   gives-each a f i k s = for-each a f i k s
 
-  gives-counted : {A : Type 0} (l : Format ℕ) (a : ℕ → Format (List A)) (long : (n : ℕ) (xs : List A) → a n .Fit xs → length xs ≡ n) → Gives P l → ((n : ℕ) → Gives P (a n)) → Gives P (counted l a long)
+  pub gives-counted : {A : Type 0} (l : Format ℕ) (a : ℕ → Format (List A)) (long : (n : ℕ) (xs : List A) → a n .Fit xs → length xs ≡ n) → Gives P l → ((n : ℕ) → Gives P (a n)) → Gives P (counted l a long)
   unfolding counted
   gives-counted l a long f g = gives-via _ _ _ _ (gives-pair l a f g)
 

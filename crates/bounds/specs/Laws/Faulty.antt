@@ -15,7 +15,7 @@ use Rattle.format.specs.Fault.{numberOf}
 use Rattle.format.specs.Format.{Answer, got, refused, endOf, shift, mapped, andThen, whole, pick, Format, Bytes}
 use Rattle.format.specs.ReadWrite.{pairRead, judge, judgeOf, numberRead, value, within}
 use Rattle.format.specs.Laws.ReadWrite.{within-is}
-use Rattle.format.specs.Combinators.{pair, judged, via, seq, _then_, number, fixed, bytes, each, counted}
+use Rattle.format.specs.Combinators.{pair, judged, via, seq, _then_, number, fixed, bytes}
 use Rattle.kind.specs.declared.Product.{Product}
 use Rattle.kind.specs.declared.Kind.{Kind}
 use Rattle.kind.specs.declared.Row.{Row}
@@ -23,11 +23,12 @@ use Rattle.kind.specs.declared.Row.the-variants as Row
 use Rattle.kind.specs.Kinds.{rowOf}
 use Rattle.element.specs.Data.{dataOf}
 use Rattle.rule.specs.Rule.{Rule, rule}
-use Rattle.deck.specs.Deck.{mark, ruleCount, header, deck, readAs}
+use Rattle.deck.specs.Deck.{Deck, mark, ruleCount, version, ruleList, deck, readAs}
+use Rattle.deck.specs.Written.{deckOf}
 use Rattle.given.specs.Given.{given, givenBy, withData}
 use Rattle.bounds.specs.Calls.{most, elementNumbers}
 use Rattle.bounds.specs.Laws.Data.{row-refuses, given-end, whole-end}
-use Rattle.bounds.specs.Laws.Faults.{For, Gives, for-refused, for-mapped, for-shift, for-whole, gives-each, gives-count, gives-data, gives-rule}
+use Rattle.bounds.specs.Laws.Faults.{For, Gives, for-refused, for-mapped, for-shift, for-whole, gives-each, gives-counted, gives-count, gives-data, gives-rule}
 use Rattle.bounds.specs.Laws.Refused.{RefusedAs, refused-as}
 use Rattle.bounds.specs.Listed.{Listed, Numbers, allowed, Lists, numbers}
 use Rattle.bounds.specs.Laws.Listed.{allowed-first}
@@ -59,28 +60,40 @@ as-fixed {B} P k v c b s cut wrong f = long (leb k (length s))
     long true = same (eqb (value (take k s)) v)
     long false = cut
 
--- 4 at 0 and 5 at 3, and nothing behind the header gives them
-header-told : (s : List ℕ) → RefusedAs Told (header .read s)
-unfolding header bytes mark value within Gives
-header-told s =
-    let count : For (λ c. (q : ℕ) → Told c (3 + (2 + q))) (ruleCount .read (drop 2 (drop 3 s))) = gives-count (λ c. (q : ℕ) → Told c (3 + (2 + q))) (λ q. (refl, λ h. h)) (λ q. (refl, λ h. h)) (λ q. (refl, λ h. h)) (λ q. (refl, λ h. h)) (λ q. (refl, λ h. h)) 2 0 256 (drop 2 (drop 3 s)) in
-    as-fixed Told 3 _ Fault.Mark _ s (refl, λ h. h) (refl, λ h. refl)
-    (as-fixed (λ c q. Told c (3 + q)) 2 1 Fault.Version ruleCount (drop 3 s) (refl, λ h. h) (refl, λ h. refl) (as-for (λ c q. Told c (3 + (2 + q))) _ count))
+-- a number that is judged is refused at its start
+as-judged : (P : Fault → ℕ → Type 0) (k : ℕ) (ok : ℕ → Bool) (c : Fault) (s : List ℕ) → P Fault.Cut 0 → P c 0 → RefusedAs P (judged ok c (number k) .read s)
+unfolding RefusedAs judged judgeOf judge number numberRead pick
+as-judged P k ok c s cut wrong = long (leb k (length s))
+  where
+    right : (t : Bool) → RefusedAs P (judge c t (value (take k s)) k)
+    right true = tt
+    right false = wrong
+
+    long : (t : Bool) → RefusedAs P (judgeOf ok c (pick t (got (value (take k s)) k) (refused Fault.Cut 0)))
+    long true = right (ok (value (take k s)))
+    long false = cut
+
+-- 4 at 0 and 5 at 3, and nothing behind the version gives them
+version-told : (s : List ℕ) → RefusedAs Told (version .read s)
+unfolding version bytes mark value within
+version-told s = as-fixed Told 3 _ Fault.Mark _ s (refl, λ h. h) (refl, λ h. refl) (as-judged (λ c q. Told c (3 + q)) 2 _ Fault.Version (drop 3 s) (refl, λ h. h) (refl, λ h. refl))
 
 -- at whatever place
 abbrev Always : Fault → Type 0
 Always c = (q : ℕ) → Told c q
 
-rules-told : (p : Product) (n : ℕ) → Gives Always (each (rule p) 0 n)
-unfolding within
-rules-told p n = gives-each Always (rule p) (gives-rule Always (λ q. (refl, λ h. h)) (λ q. (refl, λ h. h)) (λ q. (refl, λ h. h)) (λ q. (refl, λ h. h)) (λ q. (refl, λ h. h)) (λ q. (refl, λ h. h)) (λ q. (refl, λ h. h)) (λ q. (refl, λ h. h)) p) 0 n
+rules-told : (p : Product) → Gives Always (ruleList p)
+unfolding ruleList within
+rules-told p =
+    gives-counted Always ruleCount _ _ (gives-count Always (λ q. (refl, λ h. h)) (λ q. (refl, λ h. h)) (λ q. (refl, λ h. h)) (λ q. (refl, λ h. h)) (λ q. (refl, λ h. h)) 2 0 256)
+    (gives-each Always (rule p) (gives-rule Always (λ q. (refl, λ h. h)) (λ q. (refl, λ h. h)) (λ q. (refl, λ h. h)) (λ q. (refl, λ h. h)) (λ q. (refl, λ h. h)) (λ q. (refl, λ h. h)) (λ q. (refl, λ h. h)) (λ q. (refl, λ h. h)) p) 0)
 
 deck-told : (p : Product) (s : List ℕ) → RefusedAs Told (deck p .read s)
-unfolding deck counted via pair pairRead andThen mapped Gives RefusedAs
-deck-told p s = go (header .read s) (header-told s)
+unfolding deck seq via pair pairRead andThen mapped Gives RefusedAs
+deck-told p s = go (version .read s) (version-told s)
   where
-    go : (a : Answer ℕ) → RefusedAs Told a → RefusedAs Told (mapped (λ (w : ℕ × List Rule). w .1) (andThen a (λ n k. mapped (λ xs. (n, xs)) (each (rule p) 0 n .read (drop k s)))))
-    go (got n k) h = as-for Told _ (for-mapped Always _ _ (for-shift Always k _ (for-mapped Always _ _ (rules-told p n (drop k s)))))
+    go : (a : Answer ℕ) → RefusedAs Told a → RefusedAs Told (mapped (λ (w : ℕ × List Rule). deckOf (w .0) (w .1)) (andThen a (λ v k. mapped (λ rs. (v, rs)) (ruleList p .read (drop k s)))))
+    go (got v k) h = as-for Told _ (for-mapped Always _ _ (for-shift Always k _ (for-mapped Always _ _ (rules-told p (drop k s)))))
     go (refused c q) h = h
 
 whole-told : {A : Type 0} (n : ℕ) (a : Answer A) → RefusedAs Told a → RefusedAs Told (whole n a)
@@ -100,8 +113,8 @@ pub deck-faulty : (p : Product) (s : List ℕ) → RefusedAs Faulty (readAs p s)
 unfolding readAs RefusedAs endOf pick within
 deck-faulty p s = long (leb (length s) 60000) refl
   where
-    read : (a : Answer (List Rule)) → RefusedAs Told a → endOf a ≤ 60000 → RefusedAs Faulty a
-    read (got rs m) f h = tt
+    read : (a : Answer Deck) → RefusedAs Told a → endOf a ≤ 60000 → RefusedAs Faulty a
+    read (got k m) f h = tt
     read (refused c q) f h = (f .0, (h, f .1 h))
 
     long : (b : Bool) → leb (length s) 60000 ≡ b → RefusedAs Faulty (pick b (whole (length s) (deck p .read s)) (refused Fault.Long 60000))

@@ -22,7 +22,7 @@ use Rattle.kind.specs.Kinds.{editionOf}
 use Rattle.element.specs.Data.{wordsOf}
 use Rattle.element.specs.Element.{Element}
 use Rattle.rule.specs.Rule.{Rule, elementsIn}
-use Rattle.deck.specs.Deck.{readAs, readBy, readDeck, answered}
+use Rattle.deck.specs.Deck.{Deck, readAs, readBy, readDeck, answered}
 use Rattle.deck.specs.Laws.Deck.{place-small, read-writes-back}
 use Rattle.deck.specs.Written.{startOf}
 use Rattle.given.specs.Given.{given}
@@ -98,8 +98,8 @@ pub plan-small : (edition n : ℕ) (d : List ℕ) (e : Edit) → Bytes d → Han
 unfolding says
 plan-small edition n d e b h = go (planned edition n d e) (only-planned Small Small edition n d e (small-owns e) (λ p f. (deck-small edition p f (take n d) (bytes-take n d b), given-small edition p f (givenTo e) (given-bytes e h))))
   where
-    go : (x : Plan) → Only NotLarge Small Small x → placeOf (says x) ≤ 60000
-    go (become rs) f = f
+    go : (x : Plan Deck) → Only NotLarge Small Small x → placeOf (says x) ≤ 60000
+    go (become x) f = f
     go (refuse c q) f = f
     go (refuseGiven c q) f = f
 
@@ -122,8 +122,8 @@ view-small f edition k s g b = by (editionOf edition) refl
     first p at [] i = omega arith
     first p at (r ∷ rs) i = at-rule (f p at r) (g p at r) i
 
-    read : (p : Product) (a : Answer (List Rule)) → placeOf (answered a) ≤ 60000 → Inside (askedOf No f k p a) 60000 → placeOf (viewSays (askedOf No f k p a)) ≤ 60000
-    read p (got rs m) w i = first p (startOf rs k) (drop k rs) i
+    read : (p : Product) (a : Answer Deck) → placeOf (answered a) ≤ 60000 → Inside (askedOf No f k p a) 60000 → placeOf (viewSays (askedOf No f k p a)) ≤ 60000
+    read p (got d m) w i = first p (startOf (d .version) (d .rules) k) (drop k (d .rules)) i
     read p (refused c q) w i = w
 
     by : (o : Edition) → editionOf edition ≡ o → Inside (askedBy No f k o s) 60000 → placeOf (viewSays (askedBy No f k o s)) ≤ 60000
@@ -139,8 +139,8 @@ view-short f edition k s b = by (editionOf edition)
     at-rule (At a n form) l i = omega arith
     at-rule (No c q) l i = tt
 
-    read : (p : Product) (a : Answer (List Rule)) → readAs p s ≡ a → Inside (askedOf No f k p a) (length s) → Inside (askedOf No f k p a) 60000
-    read p (got rs m) h i = at-rule (askedFirst No (f p) (startOf rs k) (drop k rs)) (read-writes-back p s rs m b h .short) i
+    read : (p : Product) (a : Answer Deck) → readAs p s ≡ a → Inside (askedOf No f k p a) (length s) → Inside (askedOf No f k p a) 60000
+    read p (got d m) h i = at-rule (askedFirst No (f p) (startOf (d .version) (d .rules) k) (drop k (d .rules))) (read-writes-back p s d m b h .short) i
     read p (refused c q) h i = tt
 
     by : (o : Edition) → Inside (askedBy No f k o s) (length s) → Inside (askedBy No f k o s) 60000
@@ -176,10 +176,10 @@ pub tables-small : (edition rules elements : ℕ) (s : List ℕ) → Bytes s →
 unfolding pick inTables
 tables-small edition rules elements s b = by (editionOf edition) refl
   where
-    read : (a : Answer (List Rule)) → placeOf (answered a) ≤ 60000 → placeOf (tabled rules elements a) ≤ 60000
-    read (got rs n) h = few (leb (ruleWidth * length rs) rules) (leb (elementWidth * total elementsIn rs) elements)
+    read : (a : Answer Deck) → placeOf (answered a) ≤ 60000 → placeOf (tabled rules elements a) ≤ 60000
+    read (got k n) h = few (leb (ruleWidth * length (k .rules)) rules) (leb (elementWidth * total elementsIn (k .rules)) elements)
       where
-        few : (x y : Bool) → placeOf (pick x (pick y (Outcome.Done (length rs)) (Outcome.No Fault.Table 1)) (Outcome.No Fault.Table 0)) ≤ 60000
+        few : (x y : Bool) → placeOf (pick x (pick y (Outcome.Done (length (k .rules))) (Outcome.No Fault.Table 1)) (Outcome.No Fault.Table 0)) ≤ 60000
         few true true = h
         few true false = omega arith
         few false y = omega arith

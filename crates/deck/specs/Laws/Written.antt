@@ -1,21 +1,24 @@
 -- Laws of ../Written.antt: a deck is its opening, the number of rules and the rules, alike in both editions; where each starts.
-use Prim.Native.Nat.{ℕ, _+_, _<_}
+use Prim.Native.Nat.{ℕ, _+_, _≤_, _<_}
 use native.Mathlib.Nat.{zero-add}
 use native.Mathlib.Omega.{arith}
 use mathlib.Core.Path.{_≡_, refl, sym, ap, _∙_}
-use mathlib.Core.List.{List, _∷_, _++_, append-assoc}
-use lib.ListN.{length, take, length-append}
+use mathlib.Core.List.{List, [], _∷_, _++_, append-assoc, append-nil}
+use lib.ListN.{length, take, drop, length-append, take-append-drop}
+use lib.Seq.{length-take-le, drop-at}
 use Rattle.format.specs.Format.{Bytes}
 use Rattle.format.specs.ReadWrite.{pairWrite, value, spelt, eachWrite}
 use Rattle.format.specs.Laws.ReadWrite.{length-spelt, length-before, each-append, each-alike}
 use Rattle.format.specs.Combinators.{pair, seq, _then_, judged, via, number, count, fixed, bytes, each, counted}
 use Rattle.format.specs.Row.{startIn}
+use Rattle.format.specs.Laws.Written.{Row}
 use Rattle.kind.specs.declared.Product.{Product}
 use Rattle.kind.specs.declared.Product.the-variants.{Studio}
 use Rattle.rule.specs.Rule.{Rule, rule}
 use Rattle.rule.specs.Laws.Parts.{front, back, rule-is, back-later}
-use Rattle.deck.specs.Deck.{mark, header, deck}
-use Rattle.deck.specs.Written.{written, startOf}
+use Rattle.deck.specs.Deck.{Deck, mark, version, ruleList, deck, baseOf}
+use Rattle.deck.specs.Laws.Deck.{deck-rules}
+use Rattle.deck.specs.Written.{deckOf, written, startOf}
 
 -- ---- rules one behind the other
 unfoldable pub rules : ℕ → List Rule → List ℕ
@@ -44,43 +47,102 @@ rules-later i j rs h k =
     (λ n r. rule-is Studio (i + n) r ∙ ap (λ (t : List ℕ). front r ++ t) (back-later (i + n) (j + n) (r .elements) (omega arith) (omega arith)) ∙ sym (rule-is Studio (j + n) r))
 
 -- ---- the deck: mark and version, the number of rules, the rules
-unfoldable pub opening : List ℕ
-opening = spelt 3 (value mark) ++ spelt 2 1
+unfoldable pub opening : ℕ → List ℕ
+opening v = spelt 3 (value mark) ++ spelt 2 v
 
-pub opening-long : length opening ≡ 5
+pub opening-long : (v : ℕ) → length (opening v) ≡ 5
 unfolding opening
-opening-long = omega (arith, length-before 3 (value mark) (spelt 2 1), length-spelt 2 1)
+opening-long v = omega (arith, length-before 3 (value mark) (spelt 2 v), length-spelt 2 v)
 
-deck-is : (p : Product) (rs : List Rule) → deck p .write rs ≡ opening ++ (spelt 2 (length rs) ++ rules 0 rs)
-unfolding deck counted header bytes mark fixed count via judged _then_ seq pair pairWrite number each opening
-deck-is p rs = rw (rules-as p 0 rs) (simp append-assoc)
+-- what stands before the rules
+unfoldable pub lead : ℕ → List Rule → List ℕ
+lead v rs = opening v ++ spelt 2 (length rs)
 
--- "written afresh": alike in both editions
-pub written-as : (p : Product) (rs : List Rule) → deck p .write rs ≡ written rs
-unfolding written
-written-as p rs = deck-is p rs ∙ sym (deck-is Studio rs)
+-- mark, version and number of rules stand there in every version
+pub base-least : (v n : ℕ) → 7 ≤ baseOf v n
+unfolding baseOf
+base-least v n = omega arith
 
-pub written-bytes : (rs : List Rule) → Bytes (written rs)
-unfolding written
-written-bytes rs = deck Studio .spells rs
+-- of a version and a list of rules
+module _ (v : ℕ) (rs : List Rule) where
+  pub lead-long : length (lead v rs) ≡ baseOf v (length rs)
+  unfolding lead baseOf
+  lead-long = omega (arith, length-append (opening v) (spelt 2 (length rs)), length-spelt 2 (length rs), opening-long v)
 
--- what stands before rule k of a deck of n rules, the rules before it being xs
-unfoldable pub before : ℕ → List Rule → List ℕ
-before n xs = opening ++ (spelt 2 n ++ rules 0 xs)
+  -- the same before as many rules
+  pub lead-same : (xs : List Rule) → length xs ≡ length rs → lead v xs ≡ lead v rs
+  unfolding lead
+  lead-same xs e = rw e
 
-pub written-is : (xs ys : List Rule) → written (xs ++ ys) ≡ before (length (xs ++ ys)) xs ++ rules (length xs) ys
-unfolding written before
-written-is xs ys = deck-is Studio (xs ++ ys) ∙ rw (rules-append 0 xs ys, zero-add) (simp append-assoc)
+  deck-is : (p : Product) → deck p .write (deckOf v rs) ≡ lead v rs ++ rules 0 rs
+  unfolding deck version ruleList counted bytes mark fixed count via judged _then_ seq pair pairWrite number each opening lead
+  deck-is p = rw (rules-as p 0 rs) (simp append-assoc)
 
-pub before-long : (n : ℕ) (xs : List Rule) → length (before n xs) ≡ 7 + length (rules 0 xs)
-unfolding before
-before-long n xs = omega (arith, length-append opening (spelt 2 n ++ rules 0 xs), length-before 2 n (rules 0 xs), opening-long)
+  -- "written afresh": alike in both editions
+  pub written-as : (p : Product) → deck p .write (deckOf v rs) ≡ written v rs
+  unfolding written
+  written-as p = deck-is p ∙ sym (deck-is Studio)
 
-pub start-is : (rs : List Rule) (k : ℕ) → startOf rs k ≡ 7 + length (rules 0 (take k rs))
-unfolding startOf startIn rules
-start-is rs k = refl
+  pub written-bytes : Bytes (written v rs)
+  unfolding written
+  written-bytes = deck Studio .spells (deckOf v rs)
 
--- alike in both editions
-pub start-as : (p : Product) (rs : List Rule) (k : ℕ) → startIn (rule p) 7 rs k ≡ startOf rs k
-unfolding startIn
-start-as p rs k = ap (λ (t : List ℕ). 7 + length t) (rules-as p 0 (take k rs)) ∙ sym (start-is rs k)
+  pub written-is : written v rs ≡ lead v rs ++ rules 0 rs
+  unfolding written
+  written-is = deck-is Studio
+
+  pub written-long : length (written v rs) ≡ baseOf v (length rs) + length (rules 0 rs)
+  written-long = ap length written-is ∙ omega (arith, length-append (lead v rs) (rules 0 rs), lead-long)
+
+-- the rules start no earlier where there are more of them
+base-less : (v m n : ℕ) → m ≤ n → baseOf v m ≤ baseOf v n
+unfolding baseOf
+base-less v m n l = omega arith
+
+-- other rules behind what stands before rs
+module _ (v : ℕ) (rs xs : List Rule) where
+  pub behind-long : length (lead v rs ++ rules 0 xs) ≡ baseOf v (length rs) + length (rules 0 xs)
+  behind-long = omega (arith, length-append (lead v rs) (rules 0 xs), lead-long v rs)
+
+  pub written-less : length xs ≤ length rs → length (written v xs) ≤ length (lead v rs ++ rules 0 xs)
+  written-less l = omega (arith, behind-long, written-long v xs, base-less v (length xs) (length rs) l)
+
+  pub written-more : length rs ≤ length xs → length (lead v rs ++ rules 0 xs) ≤ length (written v xs)
+  written-more l = omega (arith, behind-long, written-long v xs, base-less v (length rs) (length xs) l)
+
+-- what stands before rule k
+unfoldable pub before : ℕ → List Rule → ℕ → List ℕ
+before v rs k = lead v rs ++ rules 0 (take k rs)
+
+module _ (v : ℕ) (rs : List Rule) (k : ℕ) where
+  pub before-long : length (before v rs k) ≡ startOf v rs k
+  unfolding before startOf startIn rules
+  before-long = omega (arith, length-append (lead v rs) (rules 0 (take k rs)), lead-long v rs)
+
+  -- the rules ys in place of those from k on
+  pub before-is : (ys : List Rule) → k ≤ length rs → lead v rs ++ rules 0 (take k rs ++ ys) ≡ before v rs k ++ rules k ys
+  unfolding before
+  before-is ys l =
+      let t : length (take k rs) ≡ k = length-take-le k rs l in
+      rw (rules-append 0 (take k rs) ys, t, zero-add) (simp append-assoc)
+
+  pub written-at : k ≤ length rs → written v rs ≡ before v rs k ++ rules k (drop k rs)
+  written-at l = written-is v rs ∙ (rw (take-append-drop k rs) at (before-is (drop k rs) l))
+
+  -- alike in both editions
+  pub start-as : (p : Product) → startIn (rule p) (baseOf v (length rs)) rs k ≡ startOf v rs k
+  unfolding startOf startIn rules
+  start-as p = ap (λ (t : List ℕ). baseOf v (length rs) + length t) (rules-as p 0 (take k rs))
+
+-- the first rule starts where the rules do
+pub start-first : (v : ℕ) (rs : List Rule) → startOf v rs 0 ≡ baseOf v (length rs)
+unfolding startOf startIn eachWrite
+start-first v rs = omega arith
+
+-- the rules of a deck stand where they start
+pub deck-row : (p : Product) (s : List ℕ) (k : Deck) → deck p .Fit k → s ≡ deck p .write k → Row (rule p) s 0 (baseOf (k .version) (length (k .rules))) (k .rules) []
+deck-row p s k f e =
+    let v = k .version in
+    let rs = k .rules in
+    let d : drop (baseOf v (length rs)) s ≡ rules 0 rs = ap (drop (baseOf v (length rs))) (e ∙ written-as v rs p ∙ written-is v rs) ∙ drop-at (lead v rs) (rules 0 rs) (baseOf v (length rs)) (lead-long v rs) in
+    record { fit = deck-rules p k f; is = d ∙ sym (rules-as p 0 rs) ∙ sym (append-nil (eachWrite (rule p) 0 rs)) }

@@ -26,10 +26,10 @@ use Rattle.element.specs.Element.{Element, dataBy}
 use Rattle.rule.specs.Rule.{Rule, rule, placed}
 use Rattle.rule.specs.Places.{elementsAt}
 use Rattle.rule.specs.Laws.Places.{rule-elements}
-use Rattle.deck.specs.Deck.{readAs}
-use Rattle.deck.specs.Laws.Deck.{read-writes-back, deck-row}
-use Rattle.deck.specs.Written.{startOf}
-use Rattle.deck.specs.Laws.Written.{start-as}
+use Rattle.deck.specs.Deck.{baseOf, readAs}
+use Rattle.deck.specs.Laws.Deck.{read-writes-back}
+use Rattle.deck.specs.Written.{deckOf, startOf}
+use Rattle.deck.specs.Laws.Written.{start-as, deck-row}
 use Rattle.given.specs.Given.{units}
 use Rattle.demands.specs.Places.{Between, UnitsOf, elementStart}
 
@@ -92,12 +92,12 @@ words-row w s at {x} {u} o d = by o
     by (KindRow.Is k) b = of k b
     by (KindRow.No c q) b = other (Kind.Simple Condition) tt b
 
--- ---- the deck s was read as the rules rs, and r is rule k of them
-module _ (p : Product) (s : List ℕ) (rs : List Rule) (n : ℕ) (bs : Bytes s) (e : readAs p s ≡ got rs n) (k : ℕ) {r : Rule} {later : List Rule} (is-r : drop k rs ≡ r ∷ later) where
-  pub rule-stands : Held (rule p k) s (startOf rs k) r
+-- ---- the deck s was read as the rules rs in version v, and r is rule k of them
+module _ (p : Product) (v : ℕ) (s : List ℕ) (rs : List Rule) (n : ℕ) (bs : Bytes s) (e : readAs p s ≡ got (deckOf v rs) n) (k : ℕ) {r : Rule} {later : List Rule} (is-r : drop k rs ≡ r ∷ later) where
+  pub rule-stands : Held (rule p k) s (startOf v rs k) r
   rule-stands =
-      let w = read-writes-back p s rs n bs e in
-      rw (start-as p rs k) at (stands-in (rule p) s 7 k rs (deck-row p s rs (w .fit) (w .is)) is-r)
+      let w = read-writes-back p s (deckOf v rs) n bs e in
+      rw (start-as v rs k p) at (stands-in (rule p) s (baseOf v (length rs)) k rs (deck-row p s (deckOf v rs) (w .fit) (w .is)) is-r)
 
-  pub element-stands : (i : ℕ) {x : Element} {others : List Element} → drop i (r .elements) ≡ x ∷ others → Held (placed p i) s (elementStart p rs k r i) x
-  element-stands i d = let h = rule-stands in stands-in (placed p) s (elementsAt p k (startOf rs k) r) i (r .elements) (rule-elements p k s (startOf rs k) r (h .0) (h .1)) d
+  pub element-stands : (i : ℕ) {x : Element} {others : List Element} → drop i (r .elements) ≡ x ∷ others → Held (placed p i) s (elementStart p v rs k r i) x
+  element-stands i d = let h = rule-stands in stands-in (placed p) s (elementsAt p k (startOf v rs k) r) i (r .elements) (rule-elements p k s (startOf v rs k) r (h .0) (h .1)) d

@@ -118,20 +118,20 @@ module _ (p : Product) (s : List ℕ) (at i k : ℕ) (t t₁ e e₁ : List ℕ) 
         let eo : o ≡ ruleBytes p i x = cc in
         (w ∙ rw (en, eo), z .1)
 
--- ---- the rules of a deck, behind its header
+-- ---- the rules of a deck, from the place where they start
 
-abbrev pub RulesFill : Product → List ℕ → ℕ → List ℕ → List ℕ → List ℕ → List ℕ → Read → Type 0
-RulesFill p s n t t₁ e e₁ r =
-    length s ≤ 60000 → n ≤ 256 → (rs : List Rule) (u : List ℕ) → Row (rule p) s 0 7 rs u → length rs ≡ n → length (ruleRows p 0 7 rs) ≤ length t → length (allElementRows p 0 7 rs) ≤ length e
-    → (r ≡ Got (7 + length (eachWrite (rule p) 0 rs)) n) × ((t₁ ≡ put t 0 (ruleRows p 0 7 rs)) × (e₁ ≡ put e 0 (allElementRows p 0 7 rs)))
+abbrev pub RulesFill : Product → List ℕ → ℕ → ℕ → List ℕ → List ℕ → List ℕ → List ℕ → Read → Type 0
+RulesFill p s base n t t₁ e e₁ r =
+    length s ≤ 60000 → base ≤ length s → n ≤ 256 → (rs : List Rule) (u : List ℕ) → Row (rule p) s 0 base rs u → length rs ≡ n → length (ruleRows p 0 base rs) ≤ length t → length (allElementRows p 0 base rs) ≤ length e
+    → (r ≡ Got (base + length (eachWrite (rule p) 0 rs)) n) × ((t₁ ≡ put t 0 (ruleRows p 0 base rs)) × (e₁ ≡ put e 0 (allElementRows p 0 base rs)))
 
 -- i of them are stored, the next stands at q, and the elements' table is full up to k
-abbrev pub RulesTurn : Product → List ℕ → ℕ → List ℕ → List ℕ → ℕ → ℕ → ℕ → List ℕ → List ℕ → Type 0
-RulesTurn p s n t e i q k t₁ e₁ =
-    (rs : List Rule) (u : List ℕ) → Row (rule p) s 0 7 rs u → length rs ≡ n → length (ruleRows p 0 7 rs) ≤ length t → length (allElementRows p 0 7 rs) ≤ length e
-    → (q ≡ startIn (rule p) 7 rs i)
-    × (Filling (ruleRows p i q (drop i rs)) (put t 0 (ruleRows p 0 7 rs)) (length t) t₁ (ruleWidth * i)
-    × Filling (allElementRows p i q (drop i rs)) (put e 0 (allElementRows p 0 7 rs)) (length e) e₁ k)
+abbrev pub RulesTurn : Product → List ℕ → ℕ → ℕ → List ℕ → List ℕ → ℕ → ℕ → ℕ → List ℕ → List ℕ → Type 0
+RulesTurn p s base n t e i q k t₁ e₁ =
+    (rs : List Rule) (u : List ℕ) → Row (rule p) s 0 base rs u → length rs ≡ n → length (ruleRows p 0 base rs) ≤ length t → length (allElementRows p 0 base rs) ≤ length e
+    → (q ≡ startIn (rule p) base rs i)
+    × (Filling (ruleRows p i q (drop i rs)) (put t 0 (ruleRows p 0 base rs)) (length t) t₁ (ruleWidth * i)
+    × Filling (allElementRows p i q (drop i rs)) (put e 0 (allElementRows p 0 base rs)) (length e) e₁ k)
 
 pub element-rows-long : (p : Product) (i at : ℕ) (xs : List Element) → length (elementRows p i at xs) ≡ elementWidth * length xs
 element-rows-long p i at xs = rows-long (placed p) (elementRow p i) elementWidth (λ x. 1) (λ j q x. refl) 0 _ xs ∙ ap (λ (m : ℕ). elementWidth * m) (total-one xs)
@@ -142,42 +142,45 @@ rule-rows-long p at rs = rows-long (rule p) (ruleRow p) ruleWidth (λ x. 1) (λ 
 pub all-rows-long : (p : Product) (at : ℕ) (rs : List Rule) → length (allElementRows p 0 at rs) ≡ elementWidth * total elementsIn rs
 all-rows-long p at rs = rows-long (rule p) (ruleElementRows p) elementWidth elementsIn (λ i q x. element-rows-long p i (elementsAt p i q x) (x .elements)) 0 at rs
 
-module _ (p : Product) (s : List ℕ) (n : ℕ) (t e : List ℕ) where
-  -- more bytes, or more rules, than a deck has
-  pub rules-long : (r : Read) → 60000 < length s → RulesFill p s n t t e e r
-  rules-long r h short few rs u w m lt le = absurd (omega arith)
+module _ (p : Product) (s : List ℕ) (base n : ℕ) (t e : List ℕ) where
+  -- more bytes, or more rules, than a deck has; or rules from past its end
+  pub rules-long : (r : Read) → 60000 < length s → RulesFill p s base n t t e e r
+  rules-long r h short far few rs u w m lt le = absurd (omega arith)
 
-  pub rules-many : (r : Read) → 256 < n → RulesFill p s n t t e e r
-  rules-many r h short few rs u w m lt le = absurd (omega arith)
+  pub rules-past : (r : Read) → length s < base → RulesFill p s base n t t e e r
+  rules-past r h short far few rs u w m lt le = absurd (omega arith)
 
-  pub rules-start : RulesTurn p s n t e 0 7 0 t e
-  rules-start rs u w m lt le = (start-first (rule p) 7 rs, (filling-start _ t 0 (omega arith), filling-start _ e 0 (omega arith)))
+  pub rules-many : (r : Read) → 256 < n → RulesFill p s base n t t e e r
+  rules-many r h short far few rs u w m lt le = absurd (omega arith)
 
-  module _ (i q k : ℕ) (t₁ e₁ : List ℕ) (f : RulesTurn p s n t e i q k t₁ e₁) where
-    pub rules-done : n ≤ i → RulesFill p s n t t₁ e e₁ (Got q n)
-    rules-done l short few rs u w m lt le =
+  pub rules-start : RulesTurn p s base n t e 0 base 0 t e
+  rules-start rs u w m lt le = (start-first (rule p) base rs, (filling-start _ t 0 (omega arith), filling-start _ e 0 (omega arith)))
+
+  module _ (i q k : ℕ) (t₁ e₁ : List ℕ) (f : RulesTurn p s base n t e i q k t₁ e₁) where
+    pub rules-done : n ≤ i → RulesFill p s base n t t₁ e e₁ (Got q n)
+    rules-done l short far few rs u w m lt le =
         let b = f rs u w m lt le in
-        (got-at (b .0 ∙ start-end (rule p) 7 i rs (omega arith)), (filling-done (b .1 .0) (rows-done (rule p) (ruleRow p) i q rs (omega arith)), filling-done (b .1 .1) (rows-done (rule p) (ruleElementRows p) i q rs (omega arith))))
+        (got-at (b .0 ∙ start-end (rule p) base i rs (omega arith)), (filling-done (b .1 .0) (rows-done (rule p) (ruleRow p) i q rs (omega arith)), filling-done (b .1 .1) (rows-done (rule p) (ruleElementRows p) i q rs (omega arith))))
 
     module _ {r : Read} {t₂ e₂ : List ℕ} (l : i < n) (g : RuleFill p s q i k t₁ t₂ e₁ e₂ r) where
       -- what is known of the next rule
-      one : (rs : List Rule) {whole all : List ℕ} {len many : ℕ} (x : Nth (rule p) s 7 i q rs)
+      one : (rs : List Rule) {whole all : List ℕ} {len many : ℕ} (x : Nth (rule p) s base i q rs)
           → Filling (ruleRows p i q (drop i rs)) whole len t₁ (ruleWidth * i) → Filling (allElementRows p i q (drop i rs)) all many e₁ k
           → (r ≡ Got (q + ruleBytes p i (x .x)) (elementsIn (x .x))) × ((t₂ ≡ put t₁ (ruleWidth * i) (ruleRow p i q (x .x))) × (e₂ ≡ put e₁ k (ruleElementRows p i q (x .x))))
       one rs x ft fe = g (x .x) (x .tail) (x .stands) (filling-room (ruleRow p i q (x .x)) _ ft (rows-next (rule p) (ruleRow p) i q rs (x .whole))) (filling-room (ruleElementRows p i q (x .x)) _ fe (rows-next (rule p) (ruleElementRows p) i q rs (x .whole)))
 
-      pub rules-stop : {c : Fault} {o : ℕ} → r ≡ No o c → RulesFill p s n t t₂ e e₂ r
-      rules-stop h short few rs u w m lt le =
+      pub rules-stop : {c : Fault} {o : ℕ} → r ≡ No o c → RulesFill p s base n t t₂ e e₂ r
+      rules-stop h short far few rs u w m lt le =
           let b = f rs u w m lt le in
-          unlike (one rs (nth (rule p) s 7 i q rs u (b .0) w (omega arith)) (b .1 .0) (b .1 .1) .0) h
+          unlike (one rs (nth (rule p) s base i q rs u (b .0) w (omega arith)) (b .1 .0) (b .1 .1) .0) h
 
-      pub rules-go : {m o : ℕ} → r ≡ Got o m → RulesTurn p s n t e (i + 1) o (k + elementWidth * m) t₂ e₂
+      pub rules-go : {m o : ℕ} → r ≡ Got o m → RulesTurn p s base n t e (i + 1) o (k + elementWidth * m) t₂ e₂
       rules-go {m} {o} h rs u w z lt le =
           let b = f rs u w z lt le in
-          let x = nth (rule p) s 7 i q rs u (b .0) w (omega arith) in
+          let x = nth (rule p) s base i q rs u (b .0) w (omega arith) in
           let d = one rs x (b .1 .0) (b .1 .1) in
           let same : Got o m ≡ Got (q + ruleBytes p i (x .x)) (elementsIn (x .x)) = sym h ∙ d .0 in
           let em : m ≡ elementsIn (x .x) = cc in
           let eo : o ≡ q + ruleBytes p i (x .x) = cc in
           let y = element-rows-long p i (elementsAt p i q (x .x)) (x .x .elements) in
-          (omega (arith, eo, b .0, start-more (rule p) 7 i rs (x .ys) (x .x) (x .whole)), rw (eo, em) (filling-go (ruleRow p i q (x .x)) _ (b .1 .0) (rows-next (rule p) (ruleRow p) i q rs (x .whole)) (d .1 .0) (omega arith), filling-go (ruleElementRows p i q (x .x)) _ (b .1 .1) (rows-next (rule p) (ruleElementRows p) i q rs (x .whole)) (d .1 .1) (ap (λ (z : ℕ). k + z) (sym y))))
+          (omega (arith, eo, b .0, start-more (rule p) base i rs (x .ys) (x .x) (x .whole)), rw (eo, em) (filling-go (ruleRow p i q (x .x)) _ (b .1 .0) (rows-next (rule p) (ruleRow p) i q rs (x .whole)) (d .1 .0) (omega arith), filling-go (ruleElementRows p i q (x .x)) _ (b .1 .1) (rows-next (rule p) (ruleElementRows p) i q rs (x .whole)) (d .1 .1) (ap (λ (z : ℕ). k + z) (sym y))))

@@ -8,7 +8,7 @@ use mathlib.Core.List.{List, [], _∷_, _++_, append-assoc}
 use lib.ListN.{length, take, drop, getD, length-append, length-drop, take-append-drop}
 use lib.Seq.{drop-append-seam, take-append-seam, length-take-le, take-add, drop-drop, drop-cons}
 use lib.Dec.{leb, eqb}
-use borrow.Author.Tests.{le-leb, leb-true, eqb-true, eqb-false}
+use borrow.Author.Tests.{le-leb, lt-leb, leb-true, eqb-true, eqb-false}
 use Rattle.format.specs.declared.Fault.{Fault}
 use Rattle.format.specs.declared.Fault.the-variants.{Cut}
 use Rattle.format.specs.Format.{Answer, got, refused, shift, mapped, andThen, endOf, pick, Bytes, Found, Format}
@@ -226,6 +226,18 @@ value-join j k s at {x} {y} ex ey h =
 pub within-fits : (low high n : ℕ) → low ≤ n → n ≤ high → within low high n ≡ true
 unfolding within
 within-fits low high n f g = rw (le-leb low n f, le-leb n high g)
+
+-- what the code's branches say of a range
+pub in-range : (low high : ℕ) {n : ℕ} → low ≤ n → n ≤ high → true ≡ within low high n
+in-range low high {n} f g = sym (within-fits low high n f g)
+
+pub under-range : (low high : ℕ) {n : ℕ} → n < low → false ≡ within low high n
+unfolding within
+under-range low high {n} f = rw (lt-leb low n f)
+
+pub over-range : (low high : ℕ) {n : ℕ} → low ≤ n → high < n → false ≡ within low high n
+unfolding within
+over-range low high {n} f g = rw (le-leb low n f, lt-leb n high g)
 
 pub within-is : (low high n : ℕ) → within low high n ≡ true → (low ≤ n) × (n ≤ high)
 unfolding within

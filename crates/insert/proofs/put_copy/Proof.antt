@@ -8,7 +8,7 @@ put-rule-requires : tie.Need-put-rule-requires
 put-rule-requires c κs = (c .before .before .before .before .before .before .before .before .before .pre .0 .two, omega (arith, c .before .before .before .before .before .before .before .before .before .pre .0 .behind, c .before .before .before .before .before .before .before .before .before .pre .1, c .before .before .before .before .before .before .before .before .before .pre .3, c .before .before .before .open-place .kept .0))
 
 returns : tie.Need-returns
-returns c = copied-holds _ _ _ _ _ _ _ _ _ _ _ (c .before .before .before .before .before .before .before .before .before .before .open-place .ensures) (c .before .before .before .before .before .before .put-rule .ensures) (c .before .before .put-number .ensures) (c .before .before .before .before .before .before .before .before .before .before .before .before .before .before .before .before .pre .0 .two) (c .before .before .before .before .before .before .before .before .before .before .before .before .before .before .before .before .pre .1) (c .before .before .before .before .before .before .before .before .before .before .before .before .before .before .before .before .pre .2) (c .before .before .before .before .before .before .before .before .before .before .before .before .before .before .before .before .pre .0 .front-large) (c .before .before .before .before .before .before .before .before .before .before .before .before .before .before .before .before .pre .0 .place) (c .before .before .before .before .before .before .before .before .before .before .before .before .before .before .before .before .pre .3)
+returns c = copied-holds _ _ _ _ _ _ _ _ (c .before .before .before .before .before .before .open-place .ensures) (c .before .before .put-rule .ensures) (c .before .before .before .before .before .before .before .before .before .before .before .before .pre .0 .two) (c .before .before .before .before .before .before .before .before .before .before .before .before .pre .1) (c .before .before .before .before .before .before .before .before .before .before .before .before .pre .2) (c .before .before .before .before .before .before .before .before .before .before .before .before .pre .0 .front-large) (c .before .before .before .before .before .before .before .before .before .before .before .before .pre .0 .place) (c .before .before .before .before .before .before .before .before .before .before .before .before .pre .3)
 
 pub put-copy-spec : {M : Type 1} → statement M
 put-copy-spec =
@@ -16,7 +16,5 @@ put-copy-spec =
     (tie.spec
     (λ c κs. search needs)
     put-rule-requires
-    (λ c. search needs)
-    (λ c κs. search needs)
     (λ c. search needs)
     returns)

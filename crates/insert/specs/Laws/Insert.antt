@@ -1,5 +1,5 @@
 -- A copy of a rule of a second deck, inserted at a place of a deck.
-use Prim.Native.Nat.{ℕ, _+_, _-_, _≤_, _<_}
+use Prim.Native.Nat.{ℕ, _+_, _-_, _≤_, _<_, max}
 use native.Mathlib.Omega.{arith}
 use native.Mathlib.Decide.{decLt}
 use mathlib.Core.Path.{_≡_, refl, sym, ap, _∙_}
@@ -18,7 +18,6 @@ use Rattle.format.specs.Laws.Fault.{inGiven}
 use Rattle.format.specs.Format.{Answer, got, refused, pick, Bytes}
 use Rattle.format.specs.ReadWrite.{spelt}
 use Rattle.format.specs.Laws.ReadWrite.{length-spelt}
-use Rattle.format.specs.Row.{startIn}
 use Rattle.kind.specs.declared.Product.{Product}
 use Rattle.kind.specs.declared.Edition.{Edition}
 use Rattle.kind.specs.declared.Edition.the-variants as Edition
@@ -26,130 +25,128 @@ use Rattle.kind.specs.Kinds.{editionOf}
 use Rattle.rule.specs.Rule.{Rule}
 use Rattle.rule.specs.Places.{enabledAt}
 use Rattle.rule.specs.Laws.Parts.{front, front-long, back, back-long, headBytes, inner, sizeOf}
-use Rattle.deck.specs.Deck.{readAs, readBy, readDeck}
-use Rattle.deck.specs.Laws.Written.{before, before-long, opening, opening-long, rules, rules-cons, written-is}
+use Rattle.deck.specs.Deck.{Deck, baseOf, readAs, readBy, readDeck}
+use Rattle.deck.specs.Laws.Written.{lead, before, before-long, before-is, behind-long, rules, rules-cons, written-at, written-long}
 use Rattle.deck.specs.Written.{startOf, written}
 use Rattle.buffer.specs.Laid.{putIn}
 use Rattle.room.specs.Room.{roomFor}
-use Rattle.buffer.specs.Laws.Holds.{Holds, Gap, holds-put, holds-fill}
+use Rattle.buffer.specs.Laws.Holds.{Holds, Gap, holds-fill}
+use Rattle.spot.specs.declared.Site.{Site}
 use Rattle.spot.specs.declared.Spot.{Spot}
 use Rattle.spot.specs.declared.Spot.the-variants as Spot
 use Rattle.spot.specs.Laws.Spot.{spotSays}
-use Rattle.locate.specs.Laws.Located.{located}
+use Rattle.locate.specs.Laws.Located.{siteOf, located}
 use Rattle.steps.specs.Laws.Steps.{Sound, sound-read, Here, here, here-stands, nameRead, nameEnd, name-end, name-never, start-within, start-past}
 use Rattle.plan.specs.Edit.{Plan, become, refuse, refuseGiven, atCopy, atSecond, insert, edited}
-use Rattle.plan.specs.Laws.Found.{Makes, Does, Within, found, ground, found-within}
-use Rattle.plan.specs.Laws.Makes.{made-no, made-given, made-out, made-in}
+use Rattle.plan.specs.Laws.Found.{Makes, Does, Sits, Within, found, ground, found-within}
+use Rattle.plan.specs.Laws.Finish.{Finishes, made-finish}
+use Rattle.plan.specs.Laws.Makes.{made-no, made-given, made-out}
 use Rattle.insert.specs.Laws.Copy.{copied, copySize, copied-is, copied-long}
-use Rattle.place.specs.Laws.Place.{lost, lost-small, lost-later, Opens, rules-lose, parts-at}
+use Rattle.place.specs.Laws.Place.{lost, lost-small, lost-later, Opens, rules-lose}
 
--- the bounds of a deck, of a place of it, and of the parts of a rule: f stands before Data Size, c is the number of its elements, l the elements
-pub record Sizes (n k m a b : ℕ) (d f c l : List ℕ) : Type 0 where
-  pub within : Within n m a b d
-  pub behind : a + lost k m ≤ n
-  pub place : k ≤ m
-  pub front-small : length f ≤ 60000
-  pub front-large : 16 ≤ length f
+-- the bounds of a deck, of a place of it, and of the parts of a rule: x stands before Data Size, c is the number of its elements, l the elements
+pub record Sizes (f : Site) (k : ℕ) (d x c l : List ℕ) : Type 0 where
+  pub within : Within f d
+  pub behind : f .start + lost k (f .rules) ≤ f .bytes
+  pub place : k ≤ f .rules
+  pub front-small : length x ≤ 60000
+  pub front-large : 16 ≤ length x
   pub two : length c ≡ 2
   pub elements-small : length l ≤ 60000
 
--- whatever m rules the sound deck in the first n bytes has, and whatever rule has these parts
-unfoldable pub Whatever : ℕ → ℕ → ℕ → ℕ → ℕ → List ℕ → List ℕ → List ℕ → List ℕ → (List Rule → Rule → Type 0) → Type 0
-Whatever n k m a b f c l d T = (p : Product) (rs : List Rule) (q : Rule) → Sound p (take n d) rs → n ≤ length d → m ≡ length rs → a ≡ startOf rs k → b ≡ startOf rs (k + 1)
-    → f ≡ front q → c ≡ spelt 2 (length (q .elements)) → l ≡ inner (q .elements) → T rs q
+-- whatever rules the deck that was found has, and whatever rule has these parts
+unfoldable pub Whatever : Site → ℕ → List ℕ → List ℕ → List ℕ → List ℕ → (ℕ → List Rule → Rule → Type 0) → Type 0
+Whatever f k x c l d T = (p : Product) (v : ℕ) (rs : List Rule) (q : Rule) → Sits (λ rs. k) f d p v rs → x ≡ front q → c ≡ spelt 2 (length (q .elements)) → l ≡ inner (q .elements) → T v rs q
 
 -- "insert at place k a copy of rule j": the edited list
 abbrev pub with : ℕ → List Rule → Rule → List Rule
 with k rs q = take k rs ++ (q ∷ drop k rs)
 
--- the buffer holds the deck of the edited list
-unfoldable pub Copied : ℕ → ℕ → ℕ → ℕ → ℕ → List ℕ → List ℕ → List ℕ → List ℕ → List ℕ → Type 0
-Copied n k m a b f c l d z = Whatever n k m a b f c l d λ rs q. Holds z (written (with k rs q)) (n + (copySize f l k - lost k m)) d
+-- the buffer holds the rules of the edited list
+unfoldable pub Copied : Site → ℕ → List ℕ → List ℕ → List ℕ → List ℕ → List ℕ → Type 0
+Copied f k x c l d z = Whatever f k x c l d λ v rs q. Holds z (lead v rs ++ rules 0 (with k rs q)) (f .bytes + (copySize x l k - lost k (f .rules))) d
 
-unfoldable pub Inserts : ℕ → ℕ → ℕ → ℕ → ℕ → List ℕ → List ℕ → List ℕ → List ℕ → Outcome → List ℕ → Type 0
-Inserts n k m a b f c l d r z = Whatever n k m a b f c l d λ rs q. Does n (become (with k rs q)) d r z
+unfoldable pub Inserts : Site → ℕ → List ℕ → List ℕ → List ℕ → List ℕ → Outcome → List ℕ → Type 0
+Inserts f k x c l d r z = Whatever f k x c l d λ v rs q. Does v (f .bytes) (become (with k rs q)) d r z
 
--- the bounds of rule j of q of the second deck, which stands from c to e
-pub record Copyable (s : List ℕ) (j q c e : ℕ) : Type 0 where
-  pub inside : j < q → nameEnd s c + 26 + length (headBytes j) ≤ e
-  pub front : j < q → c + 4 ≤ nameEnd s c
-  pub end : e ≤ length s
+-- the bounds of rule j of the second deck, where g was found
+pub record Copyable (s : List ℕ) (j : ℕ) (g : Site) : Type 0 where
+  pub inside : j < g .rules → nameEnd s (g .start) + 26 + length (headBytes j) ≤ g .end
+  pub front : j < g .rules → g .start + 4 ≤ nameEnd s (g .start)
+  pub end : g .end ≤ length s
   pub short : length s ≤ 60000
 
--- whatever rules both sound decks have
-unfoldable pub Copies : ℕ → ℕ → ℕ → ℕ → ℕ → List ℕ → ℕ → ℕ → ℕ → ℕ → List ℕ → Outcome → List ℕ → Type 0
-Copies n k m a b s j q c e d r z = (p : Product) (rs qs : List Rule) → Sound p (take n d) rs → n ≤ length d → m ≡ length rs → a ≡ startOf rs k → b ≡ startOf rs (k + 1)
-    → Sound p s qs → q ≡ length qs → c ≡ startOf qs j → e ≡ startOf qs (j + 1)
-    → Does n (pick (leb k (length rs)) (atCopy (drop j qs) λ x. become (with k rs x)) (refuse Fault.Absent 0)) d r z
+-- whatever rules both sound decks have, the second in whatever version
+unfoldable pub Copies : Site → ℕ → List ℕ → ℕ → Site → List ℕ → Outcome → List ℕ → Type 0
+Copies f k s j g d r z = (p : Product) (v : ℕ) (rs : List Rule) (u : ℕ) (qs : List Rule) → Sits (λ rs. k) f d p v rs → Sound p u s qs → g .rules ≡ length qs → g .start ≡ startOf u qs j → g .end ≡ startOf u qs (j + 1)
+    → Does v (f .bytes) (pick (leb k (length rs)) (atCopy (drop j qs) λ x. become (with k rs x)) (refuse Fault.Absent 0)) d r z
 
--- ---- the deck of the edited list
-module _ (rs : List Rule) (k : ℕ) (q : Rule) where
+-- ---- the rules of the edited list
+module _ (v : ℕ) (rs : List Rule) (k : ℕ) (q : Rule) where
   pub with-long : length (with k rs q) ≡ length rs + 1
   with-long = omega (arith, length-append (take k rs) (q ∷ drop k rs), length-append (take k rs) (drop k rs), ap length (take-append-drop k rs))
 
-  pub written-with : k ≤ length rs → written (with k rs q) ≡ before (length rs + 1) (take k rs) ++ ((front q ++ back k (q .elements)) ++ rules (k + 1) (drop k rs))
-  written-with l =
-      let t : length (take k rs) ≡ k = length-take-le k rs l in
-      (rw (with-long, t, rules-cons) at (written-is (take k rs) (q ∷ drop k rs))) ∙ rw append-assoc
+  pub rules-with : k ≤ length rs → lead v rs ++ rules 0 (with k rs q) ≡ before v rs k ++ ((front q ++ back k (q .elements)) ++ rules (k + 1) (drop k rs))
+  rules-with l = (rw rules-cons at (before-is v rs k (q ∷ drop k rs) l)) ∙ rw append-assoc
 
-  pub with-size : (n : ℕ) (d : List ℕ) (p : Product) → Sound p (take n d) rs → n ≤ length d → k ≤ length rs → length (written (with k rs q)) ≡ n + (copySize (front q) (inner (q .elements)) k - lost k (length rs))
+  pub with-size : (n : ℕ) (d : List ℕ) (p : Product) → Sound p v (take n d) rs → n ≤ length d → k ≤ length rs → length (lead v rs ++ rules 0 (with k rs q)) ≡ n + (copySize (front q) (inner (q .elements)) k - lost k (length rs))
   unfolding sizeOf
   with-size n d p o w l =
-      let B = before (length rs + 1) (take k rs) in
-      let A = before (length rs) (take k rs) in
+      let A = before v rs k in
       let R = rules (k + 1) (drop k rs) in
       let S = rules k (drop k rs) in
       let X = front q ++ back k (q .elements) in
       omega (
         arith,
-        before-long (length rs + 1) (take k rs),
-        before-long (length rs) (take k rs),
-        ap length (written-with l),
-        length-append B (X ++ R),
+        ap length (rules-with l),
+        length-append A (X ++ R),
         length-append X R,
         length-append (front q) (back k (q .elements)),
         back-long k (q .elements),
         length-take-le n d w,
-        ap length (parts-at p (take n d) rs k o l),
+        ap length (o .is ∙ written-at v rs k l),
         length-append A S,
         rules-lose k rs,
         front-long q,
         lost-small k (length rs),
       )
 
--- ---- the rule put into its gap, then the number of rules
-counted-holds : (m o : ℕ) (xs : List Rule) (T : List ℕ) {y z d : List ℕ} {hi : ℕ} → Holds y (before m xs ++ T) hi d → z ≡ putIn y 5 (spelt 2 o) → Holds z (before o xs ++ T) hi d
-unfolding before
-counted-holds m o xs T h e =
-    let i : (opening ++ (spelt 2 m ++ rules 0 xs)) ++ T ≡ opening ++ (spelt 2 m ++ (rules 0 xs ++ T)) = simp append-assoc in
-    let j : opening ++ (spelt 2 o ++ (rules 0 xs ++ T)) ≡ (opening ++ (spelt 2 o ++ rules 0 xs)) ++ T = simp append-assoc in
-    rw j at (holds-put opening (spelt 2 m) (rules 0 xs ++ T) (spelt 2 o) h i opening-long (length-spelt 2 m ∙ sym (length-spelt 2 o)) e)
+  -- and of their deck
+  pub with-written : length (written v (with k rs q)) ≡ length (lead v rs ++ rules 0 (with k rs q))
+  unfolding baseOf
+  with-written = written-long v (with k rs q) ∙ sym (behind-long v rs (with k rs q))
 
-module _ (n k m a b : ℕ) (f c l d : List ℕ) where
-  pub copied-holds : (len : ℕ) (z₁ : List ℕ) {z₂ z₃ : List ℕ} → Opens n k m a b len d z₁ → z₂ ≡ putIn z₁ a (copied f c l k) → z₃ ≡ putIn z₂ 5 (spelt 2 (m + 1)) → length c ≡ 2 → len ≡ copySize f l k → len ≤ 200000 → 16 ≤ length f → k ≤ m → n + (len - lost k m) ≤ length d
-      → Copied n k m a b f c l d z₃
-  unfolding Copied Whatever Opens startOf startIn rules
-  copied-holds len z₁ {z₂} {z₃} O e₂ e₃ lc el lx lf lk r p rs q o w em ea eb ef ec ez = go (O p rs o w em lk ea eb (omega arith) lx r)
+-- ---- the rule put into its gap
+module _ (f : Site) (k : ℕ) (x c l d : List ℕ) where
+  pub copied-holds : (len : ℕ) (z₁ : List ℕ) {z₂ : List ℕ} → Opens f k len d z₁ → z₂ ≡ putIn z₁ (f .start) (copied x c l k) → length c ≡ 2 → len ≡ copySize x l k → len ≤ 200000 → 16 ≤ length x → k ≤ f .rules → f .bytes + (len - lost k (f .rules)) ≤ length d
+      → Copied f k x c l d z₂
+  unfolding Copied Whatever Opens
+  copied-holds len z₁ {z₂} O e₂ lc el lx lf lk r p v rs q o ef ec ez = go (O p v rs o lk (omega arith) lx r)
     where
-      go : Gap z₁ (λ G. before m (take k rs) ++ (G ++ rules (k + 1) (drop k rs))) len (n + (len - lost k m)) d → Holds z₃ (written (with k rs q)) (n + (copySize f l k - lost k m)) d
+      go : Gap z₁ (λ G. before v rs k ++ (G ++ rules (k + 1) (drop k rs))) len (f .bytes + (len - lost k (f .rules))) d → Holds z₂ (lead v rs ++ rules 0 (with k rs q)) (f .bytes + (copySize x l k - lost k (f .rules))) d
       go g =
-          let x : copied f c l k ≡ front q ++ back k (q .elements) = rw (ef, ec, ez) (copied-is q k) in
-          let h = holds-fill (before m (take k rs)) (rules (k + 1) (drop k rs)) (copied f c l k) g (before-long m (take k rs) ∙ sym ea) (el ∙ sym (copied-long f c l k lc)) e₂ in
-          rw (written-with rs k q (omega arith), ← x, ← em, ← el) (counted-holds m (m + 1) (take k rs) _ h e₃)
+          let y : copied x c l k ≡ front q ++ back k (q .elements) = rw (ef, ec, ez) (copied-is q k) in
+          let h = holds-fill (before v rs k) (rules (k + 1) (drop k rs)) (copied x c l k) g (before-long v rs k ∙ sym (o .starts)) (el ∙ sym (copied-long x c l k lc)) e₂ in
+          rw (rules-with v rs k q (omega (arith, o .many)), ← y, ← el) h
 
-  -- 18, 19, 20: o is what was judged, new the new length
-  module _ {o : Outcome} (new : ℕ) where
-    pub inserts-out : o ≡ roomFor (m + 1) new (length d) → ((v : ℕ) → o ≡ Outcome.Done v → ⊥) → k ≤ m → new ≡ n + (copySize f l k - lost k m) → Inserts n k m a b f c l d o d
-    unfolding Inserts Whatever
-    inserts-out j h i e p rs q s w em ea eb ef ec ez =
-        let v : length (written (with k rs q)) ≡ new = rw (with-size rs k q n d p s w (omega arith), ← em, ← ef, ← ez, ← e) refl in
-        made-out n d refl j h (ap (λ (z : ℕ). z + 1) em ∙ sym (with-long rs k q)) (sym v)
+  -- the rules end at n
+  module _ (n : ℕ) where
+    is-long : n ≡ f .bytes + (copySize x l k - lost k (f .rules)) → k ≤ f .rules → (p : Product) (v : ℕ) (rs : List Rule) (q : Rule) → Sits (λ rs. k) f d p v rs → x ≡ front q → l ≡ inner (q .elements) → n ≡ length (lead v rs ++ rules 0 (with k rs q))
+    is-long e i p v rs q o ef ez = sym (rw (with-size v rs k q (f .bytes) d p (o .sound) (o .within) (omega (arith, o .many)), ← o .many, ← ef, ← ez, ← e) refl)
 
-    pub inserts-done : (z : List ℕ) {v : ℕ} → o ≡ roomFor (m + 1) new (length d) → o ≡ Outcome.Done v → k ≤ m → new ≡ n + (copySize f l k - lost k m) → Copied n k m a b f c l d z → Inserts n k m a b f c l d o z
-    unfolding Inserts Copied Whatever
-    inserts-done z j h i e x p rs q s w em ea eb ef ec ez =
-        let v : length (written (with k rs q)) ≡ new = rw (with-size rs k q n d p s w (omega arith), ← em, ← ef, ← ez, ← e) refl in
-        made-in n d j h (x p rs q s w em ea eb ef ec ez) refl refl v (sym e ∙ omega arith) (ap (λ (z : ℕ). z + 1) em ∙ sym (with-long rs k q))
+    -- 18, 19, 20: t is what was judged
+    module _ {t : Outcome} where
+      pub inserts-out : t ≡ roomFor (f .rules + 1) n (length d) → ((w : ℕ) → t ≡ Outcome.Done w → ⊥) → k ≤ f .rules → n ≡ f .bytes + (copySize x l k - lost k (f .rules)) → Inserts f k x c l d t d
+      unfolding Inserts Whatever
+      inserts-out j h i e p v rs q o ef ec ez =
+          made-out v (f .bytes) d refl j h (ap (λ (z : ℕ). z + 1) (o .many) ∙ sym (with-long v rs k q)) (is-long e i p v rs q o ef ez ∙ sym (with-written v rs k q))
+
+      pub inserts-done : (z : List ℕ) (y : List ℕ) {w : ℕ} (s : ℕ) → t ≡ roomFor (f .rules + 1) n (length d) → t ≡ Outcome.Done w → k ≤ f .rules → n ≡ f .bytes + (copySize x l k - lost k (f .rules)) → Copied f k x c l d z → Finishes f (f .rules + 1) n z s y → Inserts f k x c l d t y
+      unfolding Inserts Copied Whatever
+      inserts-done z y s j h i e u fin p v rs q o ef ec ez =
+          let en = is-long e i p v rs q o ef ez in
+          let hi : f .bytes + (copySize x l k - lost k (f .rules)) ≡ max (f .bytes) n = sym e ∙ omega arith in
+          made-finish f (f .rules + 1) n n d v rs o s j h fin (rw hi at (u p v rs q o ef ec ez)) en (omega arith) refl (ap (λ (z : ℕ). z + 1) (o .many) ∙ sym (with-long v rs k q)) (en ∙ sym (with-written v rs k q))
 
 -- ---- the second deck
 
@@ -157,18 +154,18 @@ part-of : (P Q R : List ℕ) {a e : ℕ} → length P ≡ a → a + length Q ≡
 part-of P Q R {a} {e} p q = let n : length Q ≡ e - a = omega arith in ap (take (e - a)) (drop-at P (Q ++ R) a p) ∙ take-at Q R (e - a) n
 
 -- rule j of it, by its parts
-module _ (s : List ℕ) {p : Product} {qs : List Rule} {j : ℕ} (h : Here p s qs j) where
-  name-there : nameEnd s (startOf qs j) ≡ enabledAt (startOf qs j) (h .r)
-  name-there = name-end s (startOf qs j) p j (h .r) (here-stands p s qs j h)
+module _ (s : List ℕ) {p : Product} (v : ℕ) {qs : List Rule} {j : ℕ} (h : Here p v s qs j) where
+  name-there : nameEnd s (startOf v qs j) ≡ enabledAt (startOf v qs j) (h .r)
+  name-there = name-end s (startOf v qs j) p j (h .r) (here-stands p v s qs j h)
 
-  size-there : startOf qs j + length (front (h .r)) ≡ nameEnd s (startOf qs j) + 20
+  size-there : startOf v qs j + length (front (h .r)) ≡ nameEnd s (startOf v qs j) + 20
   size-there = omega (arith, name-there, front-long (h .r))
 
-  end-there : startOf qs (j + 1) ≡ nameEnd s (startOf qs j) + 26 + length (headBytes j) + length (inner (h .r .elements))
+  end-there : startOf v qs (j + 1) ≡ nameEnd s (startOf v qs j) + 26 + length (headBytes j) + length (inner (h .r .elements))
   unfolding sizeOf
   end-there = omega (arith, h .ends, size-there, back-long j (h .r .elements))
 
-  whole-there : s ≡ before (length qs) (take j qs) ++ (front (h .r) ++ (spelt 4 (sizeOf j (h .r .elements)) ++ (spelt 2 (length (h .r .elements)) ++ (headBytes j ++ (inner (h .r .elements) ++ rules (j + 1) (h .later))))))
+  whole-there : s ≡ before v qs j ++ (front (h .r) ++ (spelt 4 (sizeOf j (h .r .elements)) ++ (spelt 2 (length (h .r .elements)) ++ (headBytes j ++ (inner (h .r .elements) ++ rules (j + 1) (h .later))))))
   unfolding back
   whole-there = h .is ∙ simp append-assoc
 
@@ -186,115 +183,114 @@ three P F S C H I R {c} {t} {x} {e} lp lf ls lc lh li =
     let u : length U ≡ x = simp length-append (omega arith) in
     (part-of P F (S ++ (C ++ (H ++ (I ++ R)))) lp lf, rw i (part-of Q C (H ++ (I ++ R)) q (omega arith)), rw k (part-of U I R u li))
 
-module _ (n k m a b : ℕ) (s : List ℕ) (j q c e : ℕ) (d : List ℕ) where
+module _ (f : Site) (k : ℕ) (s : List ℕ) (j : ℕ) (g : Site) (d : List ℕ) where
   -- 16
-  pub copies-place : m < k → Copies n k m a b s j q c e d (Outcome.No Fault.Absent 0) d
+  pub copies-place : f .rules < k → Copies f k s j g d (Outcome.No Fault.Absent 0) d
   unfolding Copies pick
-  copies-place l p rs qs o w em ea eb u eq ec ee = rw (lt-leb k (length rs) (omega arith)) (made-no n d refl)
+  copies-place l p v rs u qs o w eq ec ee = rw (lt-leb k (length rs) (omega (arith, o .many))) (made-no v (f .bytes) d refl)
 
-  pub copies-rule : k ≤ m → q ≤ j → Copies n k m a b s j q c e d (Outcome.No Fault.Absent 1) d
+  pub copies-rule : k ≤ f .rules → g .rules ≤ j → Copies f k s j g d (Outcome.No Fault.Absent 1) d
   unfolding Copies pick atCopy
-  copies-rule l g p rs qs o w em ea eb u eq ec ee =
+  copies-rule l h p v rs u qs o w eq ec ee =
       let z : drop j qs ≡ [] = drop-of-length-le qs {i = j} (omega arith) in
-      rw (le-leb k (length rs) (omega arith), z) (made-no n d refl)
+      rw (le-leb k (length rs) (omega (arith, o .many)), z) (made-no v (f .bytes) d refl)
 
   -- its name can be read
-  pub copies-unnamed : (r : Outcome) (z : List ℕ) {t : Read} {f : Fault} {o : ℕ} → j < q → t ≡ nameRead s c → t ≡ Read.No o f → Copies n k m a b s j q c e d r z
+  pub copies-unnamed : (r : Outcome) (z : List ℕ) {t : Read} {c : Fault} {q : ℕ} → j < g .rules → t ≡ nameRead s (g .start) → t ≡ Read.No q c → Copies f k s j g d r z
   unfolding Copies
-  copies-unnamed r z lj f g p rs qs o w em ea eb u eq ec ee =
-      let h = here p s qs j u (omega arith) in
-      name-never s (startOf qs j) (f ∙ ap (nameRead s) ec) g p j (h .r) (here-stands p s qs j h)
+  copies-unnamed r z lj i m p v rs u qs o w eq ec ee =
+      let h = here p u s qs j w (omega arith) in
+      name-never s (startOf u qs j) (i ∙ ap (nameRead s) ec) m p j (h .r) (here-stands p u s qs j h)
 
   -- the rule, by its parts
-  pub copies-is : (t x : ℕ) (f v l z : List ℕ) (r : Outcome) → Inserts n k m a b f v l d r z → f ≡ take (t - c) (drop c s) → v ≡ take (t + 6 - (t + 4)) (drop (t + 4) s) → l ≡ take (e - x) (drop x s)
-      → k ≤ m → j < q → t ≡ nameEnd s c + 20 → x ≡ t + 6 + length (headBytes j) → Copies n k m a b s j q c e d r z
+  pub copies-is : (t x : ℕ) (a b l z : List ℕ) (r : Outcome) → Inserts f k a b l d r z → a ≡ take (t - g .start) (drop (g .start) s) → b ≡ take (t + 6 - (t + 4)) (drop (t + 4) s) → l ≡ take (g .end - x) (drop x s)
+      → k ≤ f .rules → j < g .rules → t ≡ nameEnd s (g .start) + 20 → x ≡ t + 6 + length (headBytes j) → Copies f k s j g d r z
   unfolding Copies Inserts Whatever pick atCopy
-  copies-is t x f v l z r i ef ev el lk lj et ex p rs qs o w em ea eb u eq ec ee = go (here p s qs j u (omega arith))
+  copies-is t x a b l z r i ea eb el lk lj et ex p v rs u qs o w eq ec ee = go (g .start) (g .end) ec ee ea el et (here p u s qs j w (omega arith))
     where
-      go : Here p s qs j → Does n (pick (leb k (length rs)) (atCopy (drop j qs) λ y. become (with k rs y)) (refuse Fault.Absent 0)) d r z
-      go h =
-          let et′ : t ≡ nameEnd s (startOf qs j) + 20 = rw ec at et in
-          let T = three (before (length qs) (take j qs)) (front (h .r)) (spelt 4 (sizeOf j (h .r .elements))) (spelt 2 (length (h .r .elements))) (headBytes j) (inner (h .r .elements)) (rules (j + 1) (h .later)) {c = c} {t = t} {x = x} {e = e}
-          (h .starts ∙ sym ec) (omega (arith, size-there s h, ec)) (length-spelt 4 _) (length-spelt 2 _) (sym ex) (omega (arith, end-there s h, ec)) in
-          let y = i p rs (h .r) o w em ea eb (ef ∙ ap (λ (b : List ℕ). take (t - c) (drop c b)) (whole-there s h) ∙ T .0) (ev ∙ ap (λ (b : List ℕ). take (t + 6 - (t + 4)) (drop (t + 4) b)) (whole-there s h) ∙ T .1) (el ∙ ap (λ (b : List ℕ). take (e - x) (drop x b)) (whole-there s h) ∙ T .2) in
-          rw (le-leb k (length rs) (omega arith), h .from) y
+      go : (c e : ℕ) → c ≡ startOf u qs j → e ≡ startOf u qs (j + 1) → a ≡ take (t - c) (drop c s) → l ≡ take (e - x) (drop x s) → t ≡ nameEnd s c + 20 → Here p u s qs j → Does v (f .bytes) (pick (leb k (length rs)) (atCopy (drop j qs) λ y. become (with k rs y)) (refuse Fault.Absent 0)) d r z
+      go c e ec ee ea el et h =
+          let et′ : t ≡ nameEnd s (startOf u qs j) + 20 = rw ec at et in
+          let T = three (before u qs j) (front (h .r)) (spelt 4 (sizeOf j (h .r .elements))) (spelt 2 (length (h .r .elements))) (headBytes j) (inner (h .r .elements)) (rules (j + 1) (h .later)) {c = c} {t = t} {x = x} {e = e}
+          (h .starts ∙ sym ec) (omega (arith, size-there s u h, ec)) (length-spelt 4 _) (length-spelt 2 _) (sym ex) (omega (arith, end-there s u h, ec)) in
+          let y = i p v rs (h .r) o (ea ∙ ap (λ (b : List ℕ). take (t - c) (drop c b)) (whole-there s u h) ∙ T .0) (eb ∙ ap (λ (b : List ℕ). take (t + 6 - (t + 4)) (drop (t + 4) b)) (whole-there s u h) ∙ T .1) (el ∙ ap (λ (b : List ℕ). take (e - x) (drop x b)) (whole-there s u h) ∙ T .2) in
+          rw (le-leb k (length rs) (omega (arith, o .many)), h .from) y
 
 -- the bounds of rule j
-bounds : (s : List ℕ) (j : ℕ) (p : Product) (qs : List Rule) → Sound p s qs → Copyable s j (length qs) (startOf qs j) (startOf qs (j + 1))
-bounds s j p qs o =
+bounds : (s : List ℕ) (j : ℕ) (g : Site) (p : Product) (v : ℕ) (qs : List Rule) → Sound p v s qs → g .rules ≡ length qs → g .start ≡ startOf v qs j → g .end ≡ startOf v qs (j + 1) → Copyable s j g
+bounds s j g p v qs o eq ec ee =
     record {
-      inside = λ l. omega (arith, end-there s (here p s qs j o l));
-      front = λ l. omega (arith, name-there s (here p s qs j o l));
-      end = start-within p s qs j o .1;
+      inside = λ l. rw (ec, ee) (omega (arith, end-there s v (here p v s qs j o (omega arith))));
+      front = λ l. rw ec (omega (arith, name-there s v (here p v s qs j o (omega arith))));
+      end = omega (arith, start-within p v s qs j o .1);
       short = o .short;
     }
 
 -- the parts of a rule of it, as they are given
-pub copy-sizes : (n k m a b : ℕ) (d s : List ℕ) (j q c e t x : ℕ) (f v l : List ℕ) → f ≡ take (t - c) (drop c s) → v ≡ take (t + 6 - (t + 4)) (drop (t + 4) s) → l ≡ take (e - x) (drop x s) → Within n m a b d → a + lost k m ≤ n → k ≤ m
-    → Copyable s j q c e → j < q → t ≡ nameEnd s c + 20 → x ≡ t + 6 + length (headBytes j) → Sizes n k m a b d f v l
-copy-sizes n k m a b d s j q c e t x f v l ef ev el w h lk y lj et ex =
+pub copy-sizes : (f : Site) (k : ℕ) (d s : List ℕ) (j : ℕ) (g : Site) (t x : ℕ) (a b l : List ℕ) → a ≡ take (t - g .start) (drop (g .start) s) → b ≡ take (t + 6 - (t + 4)) (drop (t + 4) s) → l ≡ take (g .end - x) (drop x s) → Within f d → f .start + lost k (f .rules) ≤ f .bytes → k ≤ f .rules
+    → Copyable s j g → j < g .rules → t ≡ nameEnd s (g .start) + 20 → x ≡ t + 6 + length (headBytes j) → Sizes f k d a b l
+copy-sizes f k d s j g t x a b l ea eb el w h lk y lj et ex =
     let i = y .inside lj in
-    let g = y .front lj in
+    let z = y .front lj in
     let u = y .end in
     let o = y .short in
-    let lf : length f ≡ t - c = ap length ef ∙ length-take-le (t - c) (drop c s) (omega (arith, length-drop c s)) in
-    let lv : length v ≡ 2 = ap length ev ∙ length-take-le (t + 6 - (t + 4)) (drop (t + 4) s) (omega (arith, length-drop (t + 4) s)) ∙ omega arith in
-    let ll : length l ≡ e - x = ap length el ∙ length-take-le (e - x) (drop x s) (omega (arith, length-drop x s)) in
-    record { within = w; behind = h; place = lk; front-small = omega arith; front-large = omega arith; two = lv; elements-small = omega arith }
+    let la : length a ≡ t - g .start = ap length ea ∙ length-take-le (t - g .start) (drop (g .start) s) (omega (arith, length-drop (g .start) s)) in
+    let lb : length b ≡ 2 = ap length eb ∙ length-take-le (t + 6 - (t + 4)) (drop (t + 4) s) (omega (arith, length-drop (t + 4) s)) ∙ omega arith in
+    let ll : length l ≡ g .end - x = ap length el ∙ length-take-le (g .end - x) (drop x s) (omega (arith, length-drop x s)) in
+    record { within = w; behind = h; place = lk; front-small = omega arith; front-large = omega arith; two = lb; elements-small = omega arith }
 
--- f is where rule j of the second deck was found
-module _ (edition : ℕ) (s : List ℕ) (j : ℕ) {f : Spot} where
-  module _ (n k m a b : ℕ) (d : List ℕ) where
+-- h is where rule j of the second deck was found
+module _ (edition : ℕ) (s : List ℕ) (j : ℕ) {h : Spot} where
+  module _ (f : Site) (k : ℕ) (d : List ℕ) where
     -- 34 to 45
-    pub makes-given : {u r : Outcome} {c : Fault} {q : ℕ} → f ≡ located (λ xs. j) (readDeck edition s) → f ≡ Spot.No c q → u ≡ spotSays f → r ≡ inGiven u → Makes edition (λ rs. k) n m a b (insert k s j) d r d
+    pub makes-given : {u r : Outcome} {c : Fault} {q : ℕ} → h ≡ located (λ xs. j) (readDeck edition s) → h ≡ Spot.No c q → u ≡ spotSays h → r ≡ inGiven u → Makes edition (λ rs. k) f (insert k s j) d r d
     unfolding Makes edited atSecond readDeck readBy
-    makes-given {c = c} {q = q} g h u v p rs fe o w em ea eb =
-        let y = made-given n d (go _ (readAs p s) (sym h ∙ (rw fe at g))) in
-        (v ∙ ap inGiven (u ∙ ap spotSays h) ∙ y .0, y .1)
+    makes-given {c = c} {q = q} g i u w p v rs fe o =
+        let y = made-given v (f .bytes) d (go _ (readAs p s) (sym i ∙ (rw fe at g))) in
+        (w ∙ ap inGiven (u ∙ ap spotSays i) ∙ y .0, y .1)
       where
-        go : (F : List Rule → Plan) (x : Answer (List Rule)) → Spot.No c q ≡ located (λ xs. j) x → atSecond x F ≡ refuseGiven c q
+        go : (F : List Rule → Plan (List Rule)) (x : Answer Deck) → Spot.No c q ≡ located (λ xs. j) x → atSecond x F ≡ refuseGiven c q
         go F (got qs t) z = absurd (let u : _≡_ {A = ℕ} 0 1 = cc in omega arith)
         go F (refused x y) z = cc
 
-    pub makes-copies : {q c e : ℕ} (r : Outcome) (z : List ℕ) → Bytes s → f ≡ located (λ xs. j) (readDeck edition s) → f ≡ Spot.Is q c e → Copies n k m a b s j q c e d r z → Makes edition (λ rs. k) n m a b (insert k s j) d r z
+    pub makes-copies : {g : Site} (r : Outcome) (z : List ℕ) → Bytes s → h ≡ located (λ xs. j) (readDeck edition s) → h ≡ Spot.Is g → Copies f k s j g d r z → Makes edition (λ rs. k) f (insert k s j) d r z
     unfolding Makes edited atSecond readDeck readBy Copies
-    makes-copies {q} {c} {e} r z bs g h C p rs fe o w em ea eb = go (readAs p s) refl (sym h ∙ (rw fe at g))
+    makes-copies {g} r z bs e i C p v rs fe o = go (readAs p s) refl (sym i ∙ (rw fe at e))
       where
-        go : (x : Answer (List Rule)) → readAs p s ≡ x → Spot.Is q c e ≡ located (λ xs. j) x
-            → Does n (atSecond x λ qs. pick (leb k (length rs)) (atCopy (drop j qs) λ y. become (with k rs y)) (refuse Fault.Absent 0)) d r z
-        go (got qs t) v y = C p rs qs o w em ea eb (sound-read p s qs t bs v) (cc) (cc) (cc)
-        go (refused x y) v u = absurd (let u : _≡_ {A = ℕ} 0 1 = cc in omega arith)
+        go : (x : Answer Deck) → readAs p s ≡ x → Spot.Is g ≡ located (λ xs. j) x
+            → Does v (f .bytes) (atSecond x λ qs. pick (leb k (length rs)) (atCopy (drop j qs) λ y. become (with k rs y)) (refuse Fault.Absent 0)) d r z
+        go (got a t) w y =
+            let e : g ≡ siteOf (λ xs. j) t (a .version) (a .rules) = cc in
+            C p v rs (a .version) (a .rules) o (sound-read p s a t bs w) (ap (λ (x : Site). x .rules) e) (ap (λ (x : Site). x .start) e) (ap (λ (x : Site). x .end) e)
+        go (refused x y) w u = absurd (let u : _≡_ {A = ℕ} 0 1 = cc in omega arith)
 
-  pub copyable : {q c e : ℕ} → Bytes s → f ≡ located (λ xs. j) (readDeck edition s) → f ≡ Spot.Is q c e → Copyable s j q c e
+  pub copyable : {g : Site} → Bytes s → h ≡ located (λ xs. j) (readDeck edition s) → h ≡ Spot.Is g → Copyable s j g
   unfolding readDeck readBy
-  copyable {q} {c} {e} bs g h = by (editionOf edition) (sym h ∙ g)
+  copyable {g} bs e i = by (editionOf edition) (sym i ∙ e)
     where
-      go : (p : Product) (x : Answer (List Rule)) → readAs p s ≡ x → Spot.Is q c e ≡ located (λ xs. j) x → Copyable s j q c e
-      go p (got qs t) v z =
-          let eq : q ≡ length qs = cc in
-          let ec : c ≡ startOf qs j = cc in
-          let ee : e ≡ startOf qs (j + 1) = cc in
-          rw (eq, ec, ee) (bounds s j p qs (sound-read p s qs t bs v))
-      go p (refused x y) v z = absurd (let u : _≡_ {A = ℕ} 0 1 = cc in omega arith)
+      go : (p : Product) (x : Answer Deck) → readAs p s ≡ x → Spot.Is g ≡ located (λ xs. j) x → Copyable s j g
+      go p (got a t) w z =
+          let e : g ≡ siteOf (λ xs. j) t (a .version) (a .rules) = cc in
+          bounds s j g p (a .version) (a .rules) (sound-read p s a t bs w) (ap (λ (x : Site). x .rules) e) (ap (λ (x : Site). x .start) e) (ap (λ (x : Site). x .end) e)
+      go p (refused x y) w z = absurd (let u : _≡_ {A = ℕ} 0 1 = cc in omega arith)
 
-      by : (o : Edition) → Spot.Is q c e ≡ located (λ xs. j) (readBy o s) → Copyable s j q c e
+      by : (o : Edition) → Spot.Is g ≡ located (λ xs. j) (readBy o s) → Copyable s j g
       by (Edition.Of p) z = go p (readAs p s) refl z
       by Edition.Unknown z = absurd (let u : _≡_ {A = ℕ} 0 1 = cc in omega arith)
 
 -- where the place was found: the bounds that keep sums from wrapping
-pub found-place : (k edition n : ℕ) (d : List ℕ) {c : Spot} {m a b : ℕ} → Bytes d → c ≡ found (λ rs. k) edition n d → c ≡ Spot.Is m a b → Within n m a b d × (a + lost k m ≤ n)
-unfolding startOf startIn rules
-found-place k edition n d {m = m} {a = a} bs g h =
-    let o = ground (λ rs. k) edition n d bs g h in (
-      found-within (λ rs. k) edition n d bs g h,
-      elim (decLt (length (o .rs)) k) [
-        | yes l ↦ omega (arith, start-past (o .product) (take n d) (o .rs) k (o .sound) (omega arith), o .starts, length-take-le n d (o .within), lost-later k m (λ e. omega arith))
-        | no l ↦ behind (o .product) (o .rs) (o .sound) (o .within) (o .many) (o .starts) (omega arith)
-      ],
-    )
+pub found-place : (k edition n : ℕ) (d : List ℕ) {c : Spot} {f : Site} → Bytes d → c ≡ found (λ rs. k) edition n d → c ≡ Spot.Is f → Within f d × (f .start + lost k (f .rules) ≤ f .bytes)
+found-place k edition n d {f = f} bs g h = let y = ground (λ rs. k) edition n d bs g h in (found-within (λ rs. k) edition n d bs g h, go (y .product) (y .version) (y .rs) (y .sits))
   where
-    behind : (p : Product) (rs : List Rule) → Sound p (take n d) rs → n ≤ length d → m ≡ length rs → a ≡ 7 + length (rules 0 (take k rs)) → k ≤ length rs → a + lost k m ≤ n
-    behind p rs o w em ea l =
-        let A = before (length rs) (take k rs) in
+    behind : (p : Product) (v : ℕ) (rs : List Rule) → Sits (λ rs. k) f d p v rs → k ≤ length rs → f .start + lost k (f .rules) ≤ f .bytes
+    behind p v rs o l =
+        let A = before v rs k in
         let S = rules k (drop k rs) in
-        rw em (omega (arith, before-long (length rs) (take k rs), length-take-le n d w, ap length (parts-at p (take n d) rs k o l), length-append A S, rules-lose k rs))
+        rw (o .many) (omega (arith, o .starts, before-long v rs k, length-take-le (f .bytes) d (o .within), ap length (o .sound .is ∙ written-at v rs k l), length-append A S, rules-lose k rs))
+
+    go : (p : Product) (v : ℕ) (rs : List Rule) → Sits (λ rs. k) f d p v rs → f .start + lost k (f .rules) ≤ f .bytes
+    go p v rs o =
+        elim (decLt (length rs) k) [
+          | yes l ↦ omega (arith, start-past p v (take (f .bytes) d) rs k (o .sound) (omega arith), o .starts, length-take-le (f .bytes) d (o .within), lost-later k (f .rules) (λ e. omega arith))
+          | no l ↦ behind p v rs o (omega arith)
+        ]

@@ -147,10 +147,10 @@ ends-in-list p s at k e x b ee h =
     }
 
 -- other elements are none
-no-list : {c : Fault} {q : ℕ} → No 0 Fault.Last ≡ No q c → refuse Fault.Last 0 ≡ refuse c q
+no-list : {A : Type 0} {c : Fault} {q : ℕ} → No 0 Fault.Last ≡ No q c → _≡_ {A = Plan A} (refuse Fault.Last 0) (refuse c q)
 no-list {c} {q} h = let e : c ≡ Fault.Last = cc in let z : q ≡ 0 = cc in rw (e, z)
 
-pub list-none : (j at : ℕ) (xs : List Element) {c : Fault} {q : ℕ} → ofFirst (No 0 Fault.Last) listOf j at xs ≡ No q c → (g : ℕ → List Text → Plan) → atList xs g ≡ refuse c q
+pub list-none : {A : Type 0} (j at : ℕ) (xs : List Element) {c : Fault} {q : ℕ} → ofFirst (No 0 Fault.Last) listOf j at xs ≡ No q c → (g : ℕ → List Text → Plan A) → atList xs g ≡ refuse c q
 unfolding atList
 list-none j at [] h g = no-list h
 list-none j at ((id, plain) ∷ xs) h g = no-list h

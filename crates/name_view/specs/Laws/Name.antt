@@ -20,17 +20,17 @@ use Rattle.view.specs.Laws.View.{unitsOf, units-of}
 use Rattle.name_view.specs.Name.{nameAt}
 
 -- r is what was told of the rule's start, t what its name was read as
-module _ (s : List ℕ) (k : ℕ) (v : View) {r : Read} where
-  pub name-unreached : {c : Fault} {q : ℕ} → Reached s k k r → r ≡ Read.No q c → Tells s k nameAt v
-  name-unreached w i p = finds-never p s k nameAt v w i
+module _ (s : List ℕ) (base k : ℕ) (v : View) {r : Read} where
+  pub name-unreached : {c : Fault} {q : ℕ} → Reached s base k k r → r ≡ Read.No q c → Tells s base k nameAt v
+  name-unreached w i p = finds-never p s base k nameAt v w i
 
   -- a rule has the 4 bytes of its signature
-  pub name-cut : {u at w : ℕ} → Reached s k k r → r ≡ Read.Got at u → w ≡ length s - at → w < 4 → Tells s k nameAt v
+  pub name-cut : {u at w : ℕ} → Reached s base k k r → r ≡ Read.Got at u → w ≡ length s - at → w < 4 → Tells s base k nameAt v
   unfolding Where
-  name-cut {at = at} w i e l p = finds p s k nameAt v w i (λ x b. absurd (omega (arith, stands-room (rule p k) s at (b .1), rule-parts p k s at x (b .0) (b .1) .ends)))
+  name-cut {at = at} w i e l p = finds p s base k nameAt v w i (λ x b. absurd (omega (arith, stands-room (rule p k) s at (b .1), rule-parts p k s at x (b .0) (b .1) .ends)))
 
-  pub name-is : {u at : ℕ} {t : StringRead} → Reached s k k r → r ≡ Read.Got at u → t ≡ textSeen lengthOf string s (at + 4) → v ≡ unitsOf (length s) t → Tells s k nameAt v
+  pub name-is : {u at : ℕ} {t : StringRead} → Reached s base k k r → r ≡ Read.Got at u → t ≡ textSeen lengthOf string s (at + 4) → v ≡ unitsOf (length s) t → Tells s base k nameAt v
   unfolding Where
-  name-is {at = at} w i e h p = finds p s k nameAt v w i (λ x b.
+  name-is {at = at} w i e h p = finds p s base k nameAt v w i (λ x b.
       let y = rule-parts p k s at x (b .0) (b .1) in
       units-of (length s) (at + 4) (x .name) h (text-back lengthOf string s (at + 4) (y .named .1) e) (omega (arith, stands-room (rule p k) s at (b .1), y .ends)))

@@ -13,7 +13,7 @@ use Rattle.element.specs.Data.{words}
 use Rattle.element.specs.Element.{Element}
 use Rattle.rule.specs.declared.Fields.{Fields}
 use Rattle.rule.specs.Rule.{Rule}
-use Rattle.deck.specs.Deck.{readAs}
+use Rattle.deck.specs.Deck.{Deck, readAs}
 use Rattle.given.specs.Given.{isText, units, given}
 use Rattle.plan.specs.Edit.{become, rename, insert, addRule, addWord, renamed, newRule, holding, atCopy, atSecond, atList, edited}
 use Rattle.plan.specs.Laws.Makes.{at-rule, at-last, at-given, if-text, not-full}
@@ -35,6 +35,6 @@ module _ (p : Product) (rs : List Rule) where
   word-shortest {ws = ws} e d l word t = at-last rs (length rs - 1) _ e ∙ rw d (not-full (length ws) _ l ∙ if-text word _ t)
 
   -- it is the second deck's own rule
-  pub inserted-own : (k : ℕ) (second : List ℕ) (qs : List Rule) (n j : ℕ) {q : Rule} {after : List Rule} → readAs p second ≡ got qs n → k ≤ length rs → drop j qs ≡ q ∷ after → edited p (insert k second j) rs ≡ become (take k rs ++ (q ∷ drop k rs))
+  pub inserted-own : (k : ℕ) (second : List ℕ) (qs : Deck) (n j : ℕ) {q : Rule} {after : List Rule} → readAs p second ≡ got qs n → k ≤ length rs → drop j (qs .rules) ≡ q ∷ after → edited p (insert k second j) rs ≡ become (take k rs ++ (q ∷ drop k rs))
   unfolding edited atSecond atCopy pick
   inserted-own k second qs n j e l d = rw (e, le-leb k (length rs) l, d)

@@ -17,16 +17,17 @@ use Rattle.rule.specs.Places.{enabledAt}
 use Rattle.deck.specs.Laws.Written.{rules}
 use Rattle.deck.specs.Written.{startOf}
 use Rattle.locate.specs.Laws.Located.{lastOf}
+use Rattle.spot.specs.declared.Site.{Site}
 use Rattle.steps.specs.Laws.Steps.{Here, here, nameRead, nameEnd}
 use Rattle.plan.specs.Edit.{Edit, Plan, edited, atLast}
-use Rattle.plan.specs.Laws.Found.{MakesAs, Does}
+use Rattle.plan.specs.Laws.Found.{Sits, MakesAs, Does}
 use Rattle.plan.specs.Laws.Makes.{name-ends, name-there, replaced-long, at-last, no-last, made-no}
 
 pub rules-none : (i : ℕ) → rules i [] ≡ []
 unfolding rules eachWrite
 rules-none i = refl
 
-module _ {p : Product} {s : List ℕ} {rs : List Rule} {k : ℕ} (h : Here p s rs k) where
+module _ {p : Product} {v : ℕ} {s : List ℕ} {rs : List Rule} {k : ℕ} (h : Here p v s rs k) where
   pub among : k < length rs
   among = omega (arith, length-drop k rs, ap length (h .from))
 
@@ -43,25 +44,25 @@ module _ {p : Product} {s : List ℕ} {rs : List Rule} {k : ℕ} (h : Here p s r
   as-many x z = replaced-long rs [] k (h .r) x (h .from ∙ rw z)
 
 -- an edit that makes of the last rule what F says
-module _ (p : Product) (n m a : ℕ) (d : List ℕ) (e : Edit) (F : List Rule → ℕ → Rule → Plan) (q : (rs : List Rule) → edited p e rs ≡ atLast (drop (length rs - 1) rs) (F rs (length rs - 1))) where
-  pub on-none : m ≡ 0 → MakesAs p lastOf n m a e d (Outcome.No Fault.Last 0) d
+module _ (p : Product) (f : Site) (d : List ℕ) (e : Edit) (F : List Rule → ℕ → Rule → Plan (List Rule)) (q : (rs : List Rule) → edited p e rs ≡ atLast (drop (length rs - 1) rs) (F rs (length rs - 1))) where
+  pub on-none : f .rules ≡ 0 → MakesAs p lastOf f e d (Outcome.No Fault.Last 0) d
   unfolding MakesAs
-  on-none z rs o w em ea = made-no n d (q rs ∙ no-last rs _ (omega arith))
+  on-none z v rs o = made-no v (f .bytes) d (q rs ∙ no-last rs _ (omega (arith, o .many)))
 
   -- whatever the last rule is
-  pub on-last : {t : ℕ} (r : Outcome) (d′ : List ℕ) → (m ≡ 0 → ⊥) → t ≡ nameEnd d a
-      → ((rs : List Rule) (h : Here p (take n d) rs (m - 1)) → h .later ≡ [] → n ≤ length d → m ≡ length rs → t ≡ enabledAt (startOf rs (m - 1)) (h .r) → a ≡ startOf rs (m - 1) → Does n (F rs (m - 1) (h .r)) d r d′)
-      → MakesAs p lastOf n m a e d r d′
+  pub on-last : {t : ℕ} (r : Outcome) (d′ : List ℕ) → (f .rules ≡ 0 → ⊥) → t ≡ nameEnd d (f .start)
+      → ((v : ℕ) (rs : List Rule) (h : Here p v (take (f .bytes) d) rs (f .rules - 1)) → h .later ≡ [] → Sits lastOf f d p v rs → t ≡ enabledAt (startOf v rs (f .rules - 1)) (h .r) → f .start ≡ startOf v rs (f .rules - 1) → Does v (f .bytes) (F rs (f .rules - 1) (h .r)) d r d′)
+      → MakesAs p lastOf f e d r d′
   unfolding MakesAs
-  on-last {t} r d′ l g f rs o w em ea = go (here p (take n d) rs (m - 1) o (omega arith)) (ap (λ (i : ℕ). i - 1) (sym em))
+  on-last {t} r d′ l g w v rs o = go (here p v (take (f .bytes) d) rs (f .rules - 1) (o .sound) (omega (arith, o .many))) (ap (λ (i : ℕ). i - 1) (sym (o .many)))
     where
-      go : Here p (take n d) rs (m - 1) → length rs - 1 ≡ m - 1 → Does n (edited p e rs) d r d′
+      go : Here p v (take (f .bytes) d) rs (f .rules - 1) → length rs - 1 ≡ f .rules - 1 → Does v (f .bytes) (edited p e rs) d r d′
       go h ek =
-          let a′ : a ≡ startOf rs (m - 1) = ea ∙ ap (startOf rs) ek in
-          let t′ : t ≡ enabledAt (startOf rs (m - 1)) (h .r) = g ∙ ap (nameEnd d) a′ ∙ name-ends n d h in
-          rw (q rs, ek, at-last rs (m - 1) _ (h .from)) (f rs h (last-rule h (omega arith)) w em t′ a′)
+          let a′ : f .start ≡ startOf v rs (f .rules - 1) = o .starts ∙ ap (startOf v rs) ek in
+          let t′ : t ≡ enabledAt (startOf v rs (f .rules - 1)) (h .r) = g ∙ ap (nameEnd d) a′ ∙ name-ends (f .bytes) d h in
+          rw (q rs, ek, at-last rs (f .rules - 1) _ (h .from)) (w v rs h (last-rule h (omega (arith, o .many))) o t′ a′)
 
 -- its name can be read
-pub last-unnamed : (p : Product) (n m a : ℕ) (d : List ℕ) (e : Edit) (r : Outcome) (d′ : List ℕ) {t : Read} {c : Fault} {q : ℕ} → (m ≡ 0 → ⊥) → t ≡ nameRead d a → t ≡ Read.No q c → MakesAs p lastOf n m a e d r d′
+pub last-unnamed : (p : Product) (f : Site) (d : List ℕ) (e : Edit) (r : Outcome) (d′ : List ℕ) {t : Read} {c : Fault} {q : ℕ} → (f .rules ≡ 0 → ⊥) → t ≡ nameRead d (f .start) → t ≡ Read.No q c → MakesAs p lastOf f e d r d′
 unfolding MakesAs
-last-unnamed p n m a d e r d′ l f g rs o w em ea = name-there n d (here p (take n d) rs (length rs - 1) o (omega arith)) (f ∙ ap (nameRead d) ea) g
+last-unnamed p f d e r d′ l g h v rs o = name-there (f .bytes) d (here p v (take (f .bytes) d) rs (length rs - 1) (o .sound) (omega (arith, o .many))) (g ∙ ap (nameRead d) (o .starts)) h

@@ -4,9 +4,16 @@ use Rattle.remove.proofs.remove_other.Statement.{statement}
 use Rattle.remove.proofs.remove_other.Tie as tie
 
 returns : tie.Need-returns
-returns c = λ edition k l only. remove-other edition _ k _ _ _ _ l only (c .before .before .before .before .before .before .«open» .ensures) (c .before .before .one-less .ensures)
+returns c = λ edition k l only. remove-other edition k _ _ _ _ l only (c .before .before .before .before .before .before .before .before .before .«open» .ensures) (c .before .before .finish .ensures)
 
 pub remove-other-spec : {M : Type 1} → statement M
 remove-other-spec =
     tie.close
-    (tie.spec (λ c κs. search needs) (λ c κs. search needs) (λ c. search needs) (λ c. search needs) (λ c. search needs) returns)
+    (tie.spec
+    (λ c κs. search needs)
+    (λ c. search needs)
+    (λ c. search needs)
+    (λ c. search needs)
+    (λ c κs. search needs)
+    (λ c. search needs)
+    returns)

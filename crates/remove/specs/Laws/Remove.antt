@@ -17,24 +17,27 @@ use Rattle.format.specs.Laws.ReadWrite.{length-spelt}
 use Rattle.format.specs.Combinators.{number}
 use Rattle.format.specs.Laws.Seen.{seen, itself, unlike}
 use Rattle.format.specs.Laws.Back.{seen-fits}
+use Rattle.format.specs.Laws.Written.{Held}
 use Rattle.format.specs.Row.{startIn}
 use Rattle.kind.specs.declared.Product.{Product}
 use Rattle.element.specs.Element.{Element}
-use Rattle.rule.specs.Rule.{Rule}
+use Rattle.rule.specs.Rule.{Rule, rule}
 use Rattle.rule.specs.Places.{enabledAt}
 use Rattle.rule.specs.Laws.Parts.{front, front-long, back, back-long, sizeOf, headBytes, inner}
+use Rattle.deck.specs.Deck.{baseOf}
 use Rattle.deck.specs.Written.{written, startOf}
-use Rattle.deck.specs.Laws.Written.{written-is, opening, opening-long, before, before-long, rules, rules-cons, rules-later}
+use Rattle.deck.specs.Laws.Written.{lead, lead-long, written-less, before, before-is, rules, rules-cons, rules-later, start-first}
 use Rattle.buffer.specs.Laid.{putIn}
 use Rattle.buffer.specs.Laws.Laid.{opened, moved, down}
 use Rattle.buffer.specs.Laws.Holds.{Holds, Gap, holds-start, holds-put, holds-down, holds-open, holds-fill}
+use Rattle.spot.specs.declared.Site.{Site}
 use Rattle.spot.specs.declared.Spot.{Spot}
 use Rattle.spot.specs.declared.Spot.the-variants as Spot
 use Rattle.steps.specs.Laws.Steps.{Here, here, nameRead, nameEnd, name-end, size-read, size-is}
 use Rattle.plan.specs.Edit.{remove, edited, become}
-use Rattle.plan.specs.Laws.Found.{Makes, Does, found, ground, Ground}
-use Rattle.plan.specs.Laws.Last.{rules-none}
-use Rattle.plan.specs.Laws.Makes.{here-in, name-ends, name-there, sound-small, sound-short, at-rule, no-rule, made-no, made-is}
+use Rattle.plan.specs.Laws.Found.{Makes, Does, Sits, sits-within, found, ground}
+use Rattle.plan.specs.Laws.Finish.{Finishes, made-finished}
+use Rattle.plan.specs.Laws.Makes.{here-in, name-ends, name-there, at-rule, no-rule, made-no}
 use Rattle.head.specs.Laws.Head.{head-long, head-short}
 
 -- ---- a rule that is not the first, or is the only one
@@ -61,115 +64,117 @@ less rs later k r e l =
     let g : length later ≡ length rs - (k + 1) = omega (arith, ap length e, length-drop k rs) in
     (g, omega (arith, length-append (take k rs) later))
 
-removed-written : (rs later : List Rule) (k : ℕ) (r : Rule) → drop k rs ≡ r ∷ later → k < length rs → (k ≡ 0 → length rs ≡ 1)
-    → written (take k rs ++ later) ≡ opening ++ (spelt 2 (length rs - 1) ++ (rules 0 (take k rs) ++ rules (k + 1) later))
-unfolding before
-removed-written rs later k r e l h =
-    let t : length (take k rs) ≡ k = length-take-le k rs (omega arith) in
-    let c = less rs later k r e l in
-    let b : rules (k + 1) later ≡ rules k later = behind-same k later (λ z. omega (arith, c .0, h z)) in
-    rw b (rw (c .1, t, append-assoc, append-assoc) at (written-is (take k rs) later))
+-- the rule gives way to nothing
+module _ (d : List ℕ) (n : ℕ) (p : Product) (v : ℕ) (rs : List Rule) (k : ℕ) (h : Here p v (take n d) rs k) where
+  removed-holds : {a b : ℕ} {z : List ℕ} → n ≤ length d → a ≡ startOf v rs k → b ≡ startOf v rs (k + 1) → z ≡ opened d n a b 0 → Holds z (before v rs k ++ rules (k + 1) (h .later)) (max n (n - (b - a) + 0)) d
+  removed-holds {a} {b} w ea eb ez =
+      let r = h .r in
+      let B = before v rs k in
+      let Q = front r ++ back k (r .elements) in
+      let R = rules (k + 1) (h .later) in
+      let i : take n d ≡ B ++ (Q ++ R) = h .is ∙ simp append-assoc in
+      let q : a + length Q ≡ b = omega (arith, length-append (front r) (back k (r .elements)), h .ends) in
+      shut B R (holds-open B Q R (holds-start d n w) i (length-take-le n d w) (h .starts ∙ sym ea) q (omega arith) ez)
 
--- the rule gives way to nothing, and the number of rules is put down
-removed-holds : (d : List ℕ) (n : ℕ) (p : Product) (rs : List Rule) (k : ℕ) {m a b : ℕ} {z y : List ℕ} (h : Here p (take n d) rs k) → n ≤ length d → m ≡ length rs → a ≡ startOf rs k → b ≡ startOf rs (k + 1)
-    → z ≡ opened d n a b 0 → y ≡ putIn z 5 (spelt 2 (m - 1)) → Holds y (opening ++ (spelt 2 (length rs - 1) ++ (rules 0 (take k rs) ++ rules (k + 1) (h .later)))) (max n (n - (b - a) + 0)) d
-unfolding before
-removed-holds d n p rs k {m} {a} {b} h w em ea eb ez ey =
-    let r = h .r in
-    let B = before (length rs) (take k rs) in
-    let Q = front r ++ back k (r .elements) in
-    let R = rules (k + 1) (h .later) in
-    let i : take n d ≡ B ++ (Q ++ R) = h .is ∙ simp append-assoc in
-    let q : a + length Q ≡ b = omega (arith, length-append (front r) (back k (r .elements)), h .ends) in
-    let g = shut B R (holds-open B Q R (holds-start d n w) i (length-take-le n d w) (h .starts ∙ sym ea) q (omega arith) ez) in
-    rw (← em) (holds-put opening (spelt 2 (length rs)) (rules 0 (take k rs) ++ R) (spelt 2 (m - 1)) g (simp append-assoc) opening-long (length-spelt 2 (length rs) ∙ sym (length-spelt 2 (m - 1))) ey)
+  removed-long : n ≤ length d → length (before v rs k ++ rules (k + 1) (h .later)) ≡ n - (startOf v rs (k + 1) - startOf v rs k)
+  removed-long w =
+      let B = before v rs k in
+      let R = rules (k + 1) (h .later) in
+      let u : length (take n d) ≡ length B + (length (front (h .r)) + (length (back k (h .r .elements)) + length R)) = ap length (h .is) ∙ simp length-append in
+      omega (arith, u, length-append B R, length-take-le n d w, h .ends, h .starts)
 
-removed-long : (d : List ℕ) (n : ℕ) (p : Product) (rs : List Rule) (k : ℕ) (h : Here p (take n d) rs k) → n ≤ length d
-    → length (opening ++ (spelt 2 (length rs - 1) ++ (rules 0 (take k rs) ++ rules (k + 1) (h .later)))) ≡ n - (startOf rs (k + 1) - startOf rs k)
-removed-long d n p rs k h w =
-    let B = before (length rs) (take k rs) in
-    let X = rules 0 (take k rs) in
-    let R = rules (k + 1) (h .later) in
-    let u : length (opening ++ (spelt 2 (length rs - 1) ++ (X ++ R))) ≡ 5 + (2 + (length X + length R)) = simp (length-append, length-spelt, opening-long) in
-    let v : length (take n d) ≡ length B + (length (front (h .r)) + (length (back k (h .r .elements)) + length R)) = ap length (h .is) ∙ simp length-append in
-    omega (arith, u, v, length-take-le n d w, h .ends, before-long (length rs) (take k rs), h .starts)
+  -- the rules that are left
+  removed-is : k < length rs → (k ≡ 0 → length rs ≡ 1) → lead v rs ++ rules 0 (take k rs ++ h .later) ≡ before v rs k ++ rules (k + 1) (h .later)
+  removed-is l only =
+      let c = less rs (h .later) k (h .r) (h .from) l in
+      before-is v rs k (h .later) (omega arith) ∙ ap (λ (t : List ℕ). before v rs k ++ t) (sym (behind-same k (h .later) (λ z. omega (arith, c .0, only z))))
 
-module _ (edition n k m a b : ℕ) (d : List ℕ) where
-  pub remove-absent : m ≤ k → Makes edition (λ rs. k) n m a b (remove k) d (Outcome.No Fault.Absent 0) d
+module _ (edition k : ℕ) (f : Site) (d : List ℕ) where
+  pub remove-absent : f .rules ≤ k → Makes edition (λ rs. k) f (remove k) d (Outcome.No Fault.Absent 0) d
   unfolding Makes edited
-  remove-absent l p rs f o w em ea eb = made-no n d (no-rule rs k _ (omega arith))
+  remove-absent l p v rs x o = made-no v (f .bytes) d (no-rule rs k _ (omega (arith, o .many)))
 
-  pub remove-other : {z y : List ℕ} → k < m → (k ≡ 0 → m ≡ 1) → z ≡ opened d n a b 0 → y ≡ putIn z 5 (spelt 2 (m - 1)) → Makes edition (λ rs. k) n m a b (remove k) d (Outcome.Done (n - (b - a))) y
+  pub remove-other : {z : List ℕ} (r : ℕ) (y : List ℕ) → k < f .rules → (k ≡ 0 → f .rules ≡ 1) → z ≡ opened d (f .bytes) (f .start) (f .end) 0 → Finishes f (f .rules - 1) (f .bytes - (f .end - f .start)) z r y → Makes edition (λ rs. k) f (remove k) d (Outcome.Done r) y
   unfolding Makes edited
-  remove-other {z} {y} l only ez ey p rs f o w em ea eb = go (here p (take n d) rs k o (omega arith))
+  remove-other {z} r y l only ez fin p v rs x o = go (here p v (take (f .bytes) d) rs k (o .sound) (omega (arith, o .many)))
     where
-      go : Here p (take n d) rs k → Does n (edited p (remove k) rs) d (Outcome.Done (n - (b - a))) y
+      go : Here p v (take (f .bytes) d) rs k → Does v (f .bytes) (edited p (remove k) rs) d (Outcome.Done r) y
       go h =
-          let c = less rs (h .later) k (h .r) (h .from) (omega arith) in
-          made-is n d (removed-holds d n p rs k h w em ea eb ez ey) (at-rule rs k _ (h .from)) (sym (removed-written rs (h .later) k (h .r) (h .from) (omega arith) (λ e. sym em ∙ only e)))
-          (rw (ea, eb) (removed-long d n p rs k h w)) (omega arith) (omega (arith, c .1, sound-small n d o)) (omega (arith, sound-short n d w o))
+          let n = f .bytes - (f .end - f .start) in
+          let xs = take k rs ++ h .later in
+          let c = less rs (h .later) k (h .r) (h .from) (omega (arith, o .many)) in
+          let b = sits-within f d o in
+          let i = removed-is d (f .bytes) p v rs k h (omega (arith, o .many)) (λ e. sym (o .many) ∙ only e) in
+          let en : n ≡ length (lead v rs ++ rules 0 xs) = rw (o .starts, o .ends) (sym (ap length i ∙ removed-long d (f .bytes) p v rs k h (o .within))) in
+          let hi : max (f .bytes) (n + 0) ≡ max (f .bytes) n = omega arith in
+          let s = written-less v rs xs (omega (arith, c .1)) in
+          made-finished f (f .rules - 1) n (length (written v xs)) d v rs o r (record { few = omega (arith, b .few); short = omega (arith, s, en, b .short); inside = omega (arith, s, en, b .room) }) fin
+          (rw (hi, ← i) at (removed-holds d (f .bytes) p v rs k h (o .within) (o .starts) (o .ends) ez)) en (omega arith) (at-rule rs k _ (h .from)) (omega (arith, o .many, c .1)) refl .1
 
 -- ---- the first rule of several
 
--- the bounds of the rule behind it, which starts at b and whose name ends at e
-pub record Second (n m b e : ℕ) (d : List ℕ) : Type 0 where
-  pub many : 1 < m
-  pub wide : 23 ≤ b
-  pub order : b + 4 ≤ e
-  pub inside : e + 28 ≤ n
-  pub room : n ≤ length d
-  pub short : n ≤ 60000
+-- the bounds of the rule behind it, whose name ends at e
+pub record Second (f : Site) (e : ℕ) (d : List ℕ) : Type 0 where
+  pub many : 1 < f .rules
+  pub wide : f .base + 16 ≤ f .end
+  pub order : f .end + 4 ≤ e
+  pub inside : e + 28 ≤ f .bytes
+  pub room : f .bytes ≤ length d
+  pub short : f .bytes ≤ 60000
 
--- the rule from b on, whose head stands at h, moves to 7 and gets the long head, and a Data Size to match
-unfoldable pub led : List ℕ → ℕ → ℕ → ℕ → ℕ → List ℕ
-led d n b h size =
-    putIn (putIn (opened (moved (down (b - 7)) 7 h d) n (h - (b - 7)) (h + 2) 18) (h - (b - 7)) (headBytes 0)) (h - (b - 7) - 6) (spelt 4 (size + 16))
+-- the rule from b on, whose head stands at h, moves to base and gets the long head, and a Data Size to match
+unfoldable pub led : List ℕ → ℕ → ℕ → ℕ → ℕ → ℕ → List ℕ
+led d n base b h size =
+    putIn (putIn (opened (moved (down (b - base)) base h d) n (h - (b - base)) (h + 2) 18) (h - (b - base)) (headBytes 0)) (h - (b - base) - 6) (spelt 4 (size + 16))
 
 -- M moved over X, and H behind it with what is left given way to a longer H′
-opened-holds : (P X M H T : List ℕ) {d z y : List ℕ} {n by hh : ℕ} → Gap y (λ G. P ++ (M ++ (G ++ (H ++ T)))) by n d → length P ≡ 7 → length H ≡ 2 → 16 ≤ by → 7 + by + length M ≡ hh → 7 + by + length M + 2 + length T ≡ n
+opened-holds : (P X M H T : List ℕ) {d z y : List ℕ} {n base by hh : ℕ} → Gap y (λ G. P ++ (M ++ (G ++ (H ++ T)))) by n d → length P ≡ base → length H ≡ 2 → 16 ≤ by → base + by + length M ≡ hh → base + by + length M + 2 + length T ≡ n
     → z ≡ opened y n (hh - by) (hh + 2) 18 → Gap z (λ G. (P ++ M) ++ (G ++ T)) 18 (max n (n - (hh + 2 - (hh - by)) + 18)) d
-opened-holds P X M H T {d} {z} {y} {n} {by} {hh} g p q wide ends all ez = go (g .bytes) (g .long) (g .holds)
+opened-holds P X M H T {d} {z} {y} {n} {base} {by} {hh} g p q wide ends all ez = go (g .bytes) (g .long) (g .holds)
   where
     go : (G : List ℕ) → length G ≡ by → Holds y (P ++ (M ++ (G ++ (H ++ T)))) n d → Gap z (λ G. (P ++ M) ++ (G ++ T)) 18 (max n (n - (hh + 2 - (hh - by)) + 18)) d
     go G l h =
         let L : length (P ++ (M ++ (G ++ (H ++ T)))) ≡ n = omega (arith, length-append P (M ++ (G ++ (H ++ T))), length-append M (G ++ (H ++ T)), length-append G (H ++ T), length-append H T) in
         holds-open (P ++ M) (G ++ H) T h (simp append-assoc) L (omega (arith, length-append P M)) (omega (arith, length-append P M, length-append G H)) (omega (arith, h .room)) ez
 
-led-holds : (size m : ℕ) (O N X F S C H T : List ℕ) {d y : List ℕ} {n b hh : ℕ} → n ≤ length d → take n d ≡ (O ++ N) ++ (X ++ ((F ++ (S ++ C)) ++ (H ++ T)))
-    → length O ≡ 5 → length N ≡ 2 → length S ≡ 4 → length C ≡ 2 → length H ≡ 2 → 7 + length X ≡ b → 23 ≤ b → b + length F + 6 ≡ hh → y ≡ putIn (led d n b hh size) 5 (spelt 2 m)
-    → Holds y (O ++ (spelt 2 m ++ (F ++ (spelt 4 (size + 16) ++ (C ++ (headBytes 0 ++ T)))))) (max n (n - (hh + 2 - (hh - (b - 7))) + 18)) d
+led-holds : (size : ℕ) (P X F S C H T : List ℕ) {d y : List ℕ} {n base b hh : ℕ} → n ≤ length d → take n d ≡ P ++ (X ++ ((F ++ (S ++ C)) ++ (H ++ T)))
+    → length P ≡ base → length S ≡ 4 → length C ≡ 2 → length H ≡ 2 → base + length X ≡ b → base + 16 ≤ b → b + length F + 6 ≡ hh → y ≡ led d n base b hh size
+    → Holds y (P ++ (F ++ (spelt 4 (size + 16) ++ (C ++ (headBytes 0 ++ T))))) (max n (n - (hh + 2 - (hh - (b - base))) + 18)) d
 unfolding led
-led-holds size m O N X F S C H T {d} {y} {n} {b} {hh} w i lo ln ls lc lh lx wide ends ey =
-    let P = O ++ N in
+led-holds size P X F S C H T {d} {y} {n} {base} {b} {hh} w i p ls lc lh lx wide ends ey =
     let M = F ++ (S ++ C) in
-    let p : length P ≡ 7 = omega (arith, length-append O N) in
     let lm : length M ≡ length F + 6 = omega (arith, length-append F (S ++ C), length-append S C) in
-    let all : 7 + (b - 7) + length M + 2 + length T ≡ n = omega (arith, length-take-le n d w, ap length i, length-append P (X ++ (M ++ (H ++ T))), length-append X (M ++ (H ++ T)), length-append M (H ++ T), length-append H T) in
-    let g = holds-down P X M (H ++ T) {by = b - 7} {e = hh} (holds-start d n w) i p (omega arith) (omega arith) refl in
-    let f = holds-fill (P ++ M) T (headBytes 0) {at = hh - (b - 7)} (opened-holds P X M H T {hh = hh} g p lh (omega arith) (omega arith) all refl) (omega (arith, length-append P M)) (sym head-long) refl in
-    let s = holds-put (P ++ F) S (C ++ (headBytes 0 ++ T)) (spelt 4 (size + 16)) {at = hh - (b - 7) - 6} f (simp append-assoc) (omega (arith, length-append P F)) (ls ∙ sym (length-spelt 4 (size + 16))) refl in
-    holds-put O N (F ++ (spelt 4 (size + 16) ++ (C ++ (headBytes 0 ++ T)))) (spelt 2 m) s (simp append-assoc) lo (ln ∙ sym (length-spelt 2 m)) ey
+    let all : base + (b - base) + length M + 2 + length T ≡ n = omega (arith, length-take-le n d w, ap length i, length-append P (X ++ (M ++ (H ++ T))), length-append X (M ++ (H ++ T)), length-append M (H ++ T), length-append H T) in
+    let g = holds-down P X M (H ++ T) {by = b - base} {e = hh} (holds-start d n w) i p (omega arith) (omega arith) refl in
+    let f = holds-fill (P ++ M) T (headBytes 0) {at = hh - (b - base)} (opened-holds P X M H T {hh = hh} g p lh (omega arith) (omega arith) all refl) (omega (arith, length-append P M)) (sym head-long) refl in
+    let q : P ++ (F ++ (spelt 4 (size + 16) ++ (C ++ (headBytes 0 ++ T)))) ≡ (P ++ F) ++ (spelt 4 (size + 16) ++ (C ++ (headBytes 0 ++ T))) = simp append-assoc in
+    rw q (holds-put (P ++ F) S (C ++ (headBytes 0 ++ T)) (spelt 4 (size + 16)) {at = hh - (b - base) - 6} f (simp append-assoc) (omega (arith, length-append P F)) (ls ∙ sym (length-spelt 4 (size + 16))) ey)
 
 -- Data Size at the first place
 size-first : (xs : List Element) → sizeOf 1 xs + 16 ≡ sizeOf 0 xs
 unfolding sizeOf
 size-first xs = omega (arith, head-long, head-short 1 (omega arith))
 
--- the deck that it leaves
-abbrev ledDeck : ℕ → Rule → List Rule → List ℕ
-ledDeck m r later = opening ++ (spelt 2 m ++ (front r ++ (spelt 4 (sizeOf 1 (r .elements) + 16) ++ (spelt 2 (length (r .elements)) ++ (headBytes 0 ++ (inner (r .elements) ++ rules (1 + 1) later))))))
+-- the rules that it leaves
+abbrev ledRules : Rule → List Rule → List ℕ
+ledRules r later = front r ++ (spelt 4 (sizeOf 1 (r .elements) + 16) ++ (spelt 2 (length (r .elements)) ++ (headBytes 0 ++ (inner (r .elements) ++ rules (1 + 1) later))))
 
--- as written afresh
-led-written : (r : Rule) (later : List Rule) {m : ℕ} → m ≡ length (r ∷ later) → written (r ∷ later) ≡ ledDeck m r later
-unfolding before back
-led-written r later e =
-    let i = written-is [] (r ∷ later) in
-    let c = rules-cons 0 r later in
-    rw (size-first (r .elements), e) (i ∙ rw (rules-none, c, rules-later (0 + 1) (1 + 1) later (omega arith) (omega arith)) (simp append-assoc))
+led-written : (r : Rule) (later : List Rule) → rules 0 (r ∷ later) ≡ ledRules r later
+unfolding back
+led-written r later = rw size-first (rules-cons 0 r later ∙ rw (rules-later (0 + 1) (1 + 1) later (omega arith) (omega arith)) (simp append-assoc))
 
 -- how long that is
 led-sum : (n by h : ℕ) → by ≤ h → h + 2 ≤ n → n - (h + 2 - (h - by)) + 18 ≡ n - by + 16
 led-sum n by h l m = let e : h + 2 - (h - by) ≡ by + 2 = omega arith in rw e (omega arith)
+
+first-less : (n base b : ℕ) → base + 16 ≤ b → b ≤ n → n - (b - base) + 16 ≤ n
+first-less n base b l m = omega arith
+
+within : {a b c e : ℕ} → a ≤ b → c ≡ b → c ≤ e → a ≤ e
+within l m n = omega arith
+
+under : {n a : ℕ} (b : ℕ) → n ≤ a → n ≤ max a b
+under b l = omega arith
 
 -- the rule behind the first
 second : (rs later later′ : List Rule) (r r′ : Rule) → drop 0 rs ≡ r ∷ later → drop 1 rs ≡ r′ ∷ later′ → later ≡ r′ ∷ later′
@@ -181,79 +186,98 @@ pub size-bound : (s : List ℕ) (at : ℕ) {z : Read} {v q : ℕ} → Bytes s �
 unfolding number
 size-bound s at bs e h = let o = seen-fits itself (number 4) s at bs e h in rw (o .1 .1) (o .1 .0)
 
-first-holds : (d : List ℕ) (n m : ℕ) (p : Product) (rs : List Rule) {b e size : ℕ} {y : List ℕ} (h : Here p (take n d) rs 1) → n ≤ length d → b ≡ startOf rs 1 → 23 ≤ b → e ≡ enabledAt b (h .r) → size ≡ sizeOf 1 (h .r .elements)
-    → y ≡ putIn (led d n b (e + 26) size) 5 (spelt 2 m) → Holds y (ledDeck m (h .r) (h .later)) (max n (n - (e + 26 + 2 - (e + 26 - (b - 7))) + 18)) d
-unfolding before back startOf startIn rules
-first-holds d n m p rs {b} {e} {size} h w eb wide ee es ey =
-    let r = h .r in
-    rw (← es) (led-holds size m opening (spelt 2 (length rs)) (rules 0 (take 1 rs)) (front r) (spelt 4 (sizeOf 1 (r .elements))) (spelt 2 (length (r .elements))) (headBytes 1) (inner (r .elements) ++ rules (1 + 1) (h .later))
-    w (h .is ∙ simp append-assoc) opening-long (length-spelt 2 (length rs)) (length-spelt 4 (sizeOf 1 (r .elements))) (length-spelt 2 (length (r .elements))) (head-short 1 (omega arith)) (sym eb) wide (omega (arith, front-long r)) ey)
+-- of the deck that is found
+module _ (d : List ℕ) (n : ℕ) (p : Product) (v : ℕ) (rs : List Rule) (h : Here p v (take n d) rs 1) where
+  first-holds : {base b e size : ℕ} {y : List ℕ} → n ≤ length d → base ≡ baseOf v (length rs) → b ≡ startOf v rs 1 → base + 16 ≤ b → e ≡ enabledAt b (h .r) → size ≡ sizeOf 1 (h .r .elements)
+      → y ≡ led d n base b (e + 26) size → Holds y (lead v rs ++ ledRules (h .r) (h .later)) (max n (n - (e + 26 + 2 - (e + 26 - (b - base))) + 18)) d
+  unfolding before back startOf startIn rules
+  first-holds {base} {b} {e} {size} w eo eb wide ee es ey =
+      let r = h .r in
+      rw (← es) (led-holds size (lead v rs) (rules 0 (take 1 rs)) (front r) (spelt 4 (sizeOf 1 (r .elements))) (spelt 2 (length (r .elements))) (headBytes 1) (inner (r .elements) ++ rules (1 + 1) (h .later))
+      w (h .is ∙ simp append-assoc) (lead-long v rs ∙ sym eo) (length-spelt 4 (sizeOf 1 (r .elements))) (length-spelt 2 (length (r .elements))) (head-short 1 (omega arith)) (omega arith) wide (omega (arith, front-long r)) ey)
 
-first-long : (d : List ℕ) (n m : ℕ) (p : Product) (rs : List Rule) (h : Here p (take n d) rs 1) → n ≤ length d → length (ledDeck m (h .r) (h .later)) ≡ n - (startOf rs 1 - 7) + 16
-unfolding sizeOf startOf startIn rules
-first-long d n m p rs h w =
-    let F = front (h .r) in
-    let I = inner (h .r .elements) in
-    let L = rules (1 + 1) (h .later) in
-    let u : length (ledDeck m (h .r) (h .later)) ≡ 5 + (2 + (length F + (4 + (2 + (18 + (length I + length L)))))) = simp (length-append, length-spelt, opening-long, head-long) in
-    let v : length (take n d) ≡ startOf rs 1 + (length F + (length (back 1 (h .r .elements)) + length L)) = ap length (h .is) ∙ simp (length-append, h .starts) in
-    omega (arith, u, v, length-take-le n d w, back-long 1 (h .r .elements), head-short 1 (omega arith))
+  first-long : n ≤ length d → length (lead v rs ++ ledRules (h .r) (h .later)) ≡ n - (startOf v rs 1 - baseOf v (length rs)) + 16
+  unfolding sizeOf startOf startIn rules
+  first-long w =
+      let F = front (h .r) in
+      let I = inner (h .r .elements) in
+      let L = rules (1 + 1) (h .later) in
+      let u : length (lead v rs ++ ledRules (h .r) (h .later)) ≡ baseOf v (length rs) + (length F + (4 + (2 + (18 + (length I + length L))))) = simp (length-append, length-spelt, lead-long, head-long) in
+      let t : length (take n d) ≡ startOf v rs 1 + (length F + (length (back 1 (h .r .elements)) + length L)) = ap length (h .is) ∙ simp (length-append, h .starts) in
+      omega (arith, u, t, length-take-le n d w, back-long 1 (h .r .elements), head-short 1 (omega arith))
 
 -- as the code does it
-pub led-is : (d : List ℕ) (n b h size : ℕ) {at : ℕ} {y₁ y₂ y₃ y₄ : List ℕ} → at ≡ h - (b - 7) → y₁ ≡ moved (down (b - 7)) 7 h d → y₂ ≡ opened y₁ n at (h + 2) 18 → y₃ ≡ putIn y₂ at (headBytes 0) → y₄ ≡ putIn y₃ (at - 6) (spelt 4 (size + 16)) → y₄ ≡ led d n b h size
+pub led-is : (d : List ℕ) (n base b h size : ℕ) {at : ℕ} {y₁ y₂ y₃ y₄ : List ℕ} → at ≡ h - (b - base) → y₁ ≡ moved (down (b - base)) base h d → y₂ ≡ opened y₁ n at (h + 2) 18 → y₃ ≡ putIn y₂ at (headBytes 0) → y₄ ≡ putIn y₃ (at - 6) (spelt 4 (size + 16)) → y₄ ≡ led d n base b h size
 unfolding led
-led-is d n b h size e f g i j = rw (j, i, g, f, e)
+led-is d n base b h size e f g i j = rw (j, i, g, f, e)
 
 -- where the rule behind the first stands
-next-bounds : (n : ℕ) (d : List ℕ) (p : Product) (rs : List Rule) → Here p (take n d) rs 0 → (h : Here p (take n d) rs 1) → n ≤ length d → (23 ≤ startOf rs 1) × (enabledAt (startOf rs 1) (h .r) + 28 ≤ n)
+next-bounds : (n : ℕ) (d : List ℕ) (p : Product) (v : ℕ) (rs : List Rule) → Here p v (take n d) rs 0 → (h : Here p v (take n d) rs 1) → n ≤ length d → (baseOf v (length rs) + 16 ≤ startOf v rs 1) × (enabledAt (startOf v rs 1) (h .r) + 28 ≤ n)
 unfolding sizeOf
-next-bounds n d p rs g h w =
-    let B = before (length rs) (take 1 rs) in
+next-bounds n d p v rs g h w =
+    let B = before v rs 1 in
     let x = back 1 (h .r .elements) in
     let L = rules (1 + 1) (h .later) in (
-      omega (arith, g .ends, g .starts, before-long (length rs) (take 0 rs), front-long (g .r)),
+      omega (arith, g .ends, start-first v rs, front-long (g .r)),
       omega (arith, ap length (h .is), length-take-le n d w, length-append B (front (h .r) ++ (x ++ L)), length-append (front (h .r)) (x ++ L), length-append x L, front-long (h .r), back-long 1 (h .r .elements), head-short 1 (omega arith), h .starts),
     )
 
-module _ (edition n k m a b e : ℕ) (d : List ℕ) where
-  pub found-next : {c : Spot} → Bytes d → c ≡ found (λ rs. k) edition n d → c ≡ Spot.Is m a b → k ≡ 0 → 1 < m → e ≡ nameEnd d b → Second n m b e d
-  found-next bs f g ek l z = go (ground (λ rs. k) edition n d bs f g)
-    where
-      go : Ground (λ rs. k) edition n d m a b → Second n m b e d
-      go o =
-          let h = here (o .product) (take n d) (o .rs) 1 (o .sound) (omega (arith, o .many)) in
-          let i = next-bounds n d (o .product) (o .rs) (here (o .product) (take n d) (o .rs) 0 (o .sound) (omega (arith, o .many))) h (o .within) in
-          let eb : b ≡ startOf (o .rs) 1 = rw ek at (o .ends) in
-          let j : e ≡ enabledAt (startOf (o .rs) 1) (h .r) = rw eb at z ∙ name-ends n d h in
-          record { many = l; wide = omega (arith, i .0, eb); order = omega (arith, j, eb); inside = omega (arith, i .1, j); room = o .within; short = omega (arith, o .sound .short, length-take-le n d (o .within)) }
+module _ (edition k : ℕ) (f : Site) (e : ℕ) (d : List ℕ) where
+  -- the rule behind the first of a sound deck
+  module _ (p : Product) (v : ℕ) (rs : List Rule) (o : Sits (λ rs. k) f d p v rs) where
+    behind-first : 1 < f .rules → Here p v (take (f .bytes) d) rs 1
+    behind-first l = here p v (take (f .bytes) d) rs 1 (o .sound) (omega (arith, o .many))
+
+    starts-there : k ≡ 0 → f .end ≡ startOf v rs 1
+    starts-there ek = rw ek at (o .ends)
+
+    held-there : k ≡ 0 → (h : Here p v (take (f .bytes) d) rs 1) → Held (rule p 1) d (f .end) (h .r)
+    held-there ek h = rw (starts-there ek) (here-in (f .bytes) d h)
+
+    second-bounds : k ≡ 0 → 1 < f .rules → e ≡ nameEnd d (f .end) → Second f e d
+    second-bounds ek l z =
+        let h = behind-first l in
+        let i = next-bounds (f .bytes) d p v rs (here p v (take (f .bytes) d) rs 0 (o .sound) (omega (arith, o .many))) h (o .within) in
+        let eb = starts-there ek in
+        let j : e ≡ enabledAt (startOf v rs 1) (h .r) = rw eb at z ∙ name-ends (f .bytes) d h in
+        let b = sits-within f d o in
+        record { many = l; wide = omega (arith, i .0, eb, o .base); order = omega (arith, j, eb); inside = omega (arith, i .1, j); room = b .room; short = b .short }
+
+  pub found-next : (n : ℕ) {c : Spot} → Bytes d → c ≡ found (λ rs. k) edition n d → c ≡ Spot.Is f → k ≡ 0 → 1 < f .rules → e ≡ nameEnd d (f .end) → Second f e d
+  found-next n bs g h ek l z = let y = ground (λ rs. k) edition n d bs g h in second-bounds (y .product) (y .version) (y .rs) (y .sits) ek l z
 
   -- the name of the rule behind it can be read, and its Data Size
-  pub remove-unnamed : (r : Outcome) (d′ : List ℕ) {t : Read} {c : Fault} {q : ℕ} → k ≡ 0 → 1 < m → t ≡ nameRead d b → t ≡ No q c → Makes edition (λ rs. k) n m a b (remove k) d r d′
+  pub remove-unnamed : (r : Outcome) (d′ : List ℕ) {t : Read} {c : Fault} {q : ℕ} → k ≡ 0 → 1 < f .rules → t ≡ nameRead d (f .end) → t ≡ No q c → Makes edition (λ rs. k) f (remove k) d r d′
   unfolding Makes
-  remove-unnamed r d′ ek l f g p rs x o w em ea eb =
-      let h = here p (take n d) rs 1 o (omega arith) in
-      let eb′ : b ≡ startOf rs 1 = rw ek at eb in
-      name-there n d h (f ∙ ap (nameRead d) eb′) g
+  remove-unnamed r d′ ek l g i p v rs x o = name-there (f .bytes) d (behind-first p v rs o l) (g ∙ ap (nameRead d) (starts-there p v rs o ek)) i
 
-  pub remove-unread : (r : Outcome) (d′ : List ℕ) {z : Read} {c : Fault} {q : ℕ} → k ≡ 0 → 1 < m → e ≡ nameEnd d b → z ≡ seen itself (number 4) d (e + 20) → z ≡ No q c → Makes edition (λ rs. k) n m a b (remove k) d r d′
+  pub remove-unread : (r : Outcome) (d′ : List ℕ) {z : Read} {c : Fault} {q : ℕ} → k ≡ 0 → 1 < f .rules → e ≡ nameEnd d (f .end) → z ≡ seen itself (number 4) d (e + 20) → z ≡ No q c → Makes edition (λ rs. k) f (remove k) d r d′
   unfolding Makes
-  remove-unread r d′ ek l ee ez x p rs f o w em ea eb =
-      let h = here p (take n d) rs 1 o (omega arith) in
-      let eb′ : b ≡ startOf rs 1 = rw ek at eb in
-      unlike (size-read d b p 1 (h .r) (rw eb′ (here-in n d h)) ee ez) x
+  remove-unread r d′ ek l ee ez y p v rs x o =
+      let h = behind-first p v rs o l in
+      unlike (size-read d (f .end) p 1 (h .r) (held-there p v rs o ek h) ee ez) y
 
-  pub remove-first : {z : Read} {size q : ℕ} {x y : List ℕ} → k ≡ 0 → Second n m b e d → e ≡ nameEnd d b → z ≡ seen itself (number 4) d (e + 20) → z ≡ Got q size → x ≡ led d n b (e + 26) size → y ≡ putIn x 5 (spelt 2 (m - 1))
-      → Makes edition (λ rs. k) n m a b (remove k) d (Outcome.Done (n - (b - 7) + 16)) y
+  pub remove-first : {z : Read} {size q : ℕ} {x : List ℕ} (r : ℕ) (y : List ℕ) → k ≡ 0 → 1 < f .rules → e ≡ nameEnd d (f .end) → z ≡ seen itself (number 4) d (e + 20) → z ≡ Got q size → x ≡ led d (f .bytes) (f .base) (f .end) (e + 26) size
+      → Finishes f (f .rules - 1) (f .bytes - (f .end - f .base) + 16) x r y → Makes edition (λ rs. k) f (remove k) d (Outcome.Done r) y
   unfolding Makes edited
-  remove-first {z} {size} {q} {x} {y} ek t ee ez eg ex ey p rs f o w em ea eb = rw ek (go (here p (take n d) rs 0 o (omega (arith, t .many))) (here p (take n d) rs 1 o (omega (arith, t .many))))
+  remove-first {z} {size} {q} {x} r y ek many ee ez eg ex fin p v rs u o = rw ek (go (here p v (take (f .bytes) d) rs 0 (o .sound) (omega (arith, o .many))) (behind-first p v rs o many))
     where
-      go : Here p (take n d) rs 0 → Here p (take n d) rs 1 → Does n (edited p (remove 0) rs) d (Outcome.Done (n - (b - 7) + 16)) y
+      go : Here p v (take (f .bytes) d) rs 0 → Here p v (take (f .bytes) d) rs 1 → Does v (f .bytes) (edited p (remove 0) rs) d (Outcome.Done r) y
       go g h =
-          let i = next-bounds n d p rs g h w in
+          let t = second-bounds p v rs o ek many ee in
+          let n = f .bytes - (f .end - f .base) + 16 in
           let l = second rs (g .later) (h .later) (g .r) (h .r) (g .from) (h .from) in
-          let c = less rs (g .later) 0 (g .r) (g .from) (omega (arith, t .many)) .0 in
-          let k : b ≡ startOf rs 1 = rw ek at eb in
-          let j : e ≡ enabledAt b (h .r) = ee ∙ name-end d b p 1 (h .r) (rw k (here-in n d h)) in
-          let v = size-is d b p 1 (h .r) (rw k (here-in n d h)) ee ez eg .0 in
-          made-is n d (first-holds d n (m - 1) p rs h w k (t .wide) j v (rw ex at ey)) (at-rule rs 0 _ (g .from) ∙ ap become l) (sym (led-written (h .r) (h .later) (omega (arith, c, ap length l))))
-          (rw k (first-long d n (m - 1) p rs h w)) (ap (max n) (led-sum n (b - 7) (e + 26) (omega (arith, t .wide, t .order)) (omega (arith, t .inside)))) (omega (arith, c, ap length l, sound-small n d o)) (omega (arith, t .wide, t .inside, t .short))
+          let c = less rs (g .later) 0 (g .r) (g .from) (omega (arith, o .many)) .0 in
+          let k : f .end ≡ startOf v rs 1 = starts-there p v rs o ek in
+          let j : e ≡ enabledAt (f .end) (h .r) = ee ∙ name-end d (f .end) p 1 (h .r) (held-there p v rs o ek h) in
+          let w = size-is d (f .end) p 1 (h .r) (held-there p v rs o ek h) ee ez eg .0 in
+          let xs = h .r ∷ h .later in
+          let i = led-written (h .r) (h .later) in
+          let en : n ≡ length (lead v rs ++ rules 0 xs) = rw (k, o .base, i) (sym (first-long d (f .bytes) p v rs h (o .within))) in
+          let hi = ap (max (f .bytes)) (led-sum (f .bytes) (f .end - f .base) (e + 26) (omega (arith, t .order)) (omega (arith, t .inside))) in
+          let s = written-less v rs xs (omega (arith, c, ap length l)) in
+          let b = sits-within f d o in
+          let m = first-less (f .bytes) (f .base) (f .end) (t .wide) (omega (arith, t .inside, t .order)) in
+          let z = within s en m in
+          made-finished f (f .rules - 1) n (length (written v xs)) d v rs o r (record { few = omega (arith, b .few); short = within z refl (t .short); inside = within z refl (t .room) }) fin
+          (rw (hi, ← i) at (first-holds d (f .bytes) p v rs h (o .within) (o .base) k (t .wide) j w ex)) en (under (length (written v xs)) m) (at-rule rs 0 _ (g .from) ∙ ap become l) (omega (arith, o .many, c, ap length l)) refl .1

@@ -13,11 +13,11 @@ use Rattle.kind.specs.Laws.Kinds.{all-offered}
 use Rattle.element.specs.Element.{Element, element, identifier, isRow}
 use Rattle.rule.specs.Rule.{Rule, placed}
 use Rattle.rule.specs.Laws.Rule.{placed-fits, fits-placed}
-use Rattle.deck.specs.Deck.{deck, readAs}
+use Rattle.deck.specs.Deck.{Deck, deck, readAs}
 use Rattle.deck.specs.Laws.Deck.{deck-small, read-writes-back, written-reads-back}
-use Rattle.deck.specs.Written.{written}
+use Rattle.deck.specs.Written.{afresh}
 use Rattle.deck.specs.Laws.Written.{written-as, written-bytes}
-use Rattle.runs.specs.Laws.Fits.{Every, Fits, deck-fits, fits-deck}
+use Rattle.runs.specs.Laws.Fits.{Every, Fits, deck-fits, fits-deck, fits-version}
 
 module _ (p : Product) where
   element-studio : (x : Element) → element p .Fit x → element Studio .Fit x
@@ -36,20 +36,21 @@ module _ (p : Product) where
       let g = f .0 in
       (record { signature = g .signature; name = g .name; unknown2 = g .unknown2; unknown3 = g .unknown3; unknown4 = g .unknown4; unknown5 = g .unknown5; some = g .some; few = g .few; elements = all-studio 0 (r .elements) (g .elements) }, rules-studio rs (f .1))
 
-  pub deck-studio : (rs : List Rule) → deck p .Fit rs → length (written rs) ≤ 60000 → deck Studio .Fit rs
-  deck-studio rs f l = deck-fits Studio rs (rules-studio rs (fits-deck p rs f)) (deck-small p rs f) l
+  pub deck-studio : (k : Deck) → deck p .Fit k → length (afresh k) ≤ 60000 → deck Studio .Fit k
+  deck-studio k f l = deck-fits Studio k (fits-version p k f) (rules-studio (k .rules) (fits-deck p k f)) (deck-small p k f) l
 
-  pub reads-back : (rs : List Rule) → deck p .Fit rs → length (written rs) ≤ 60000 → readAs p (written rs) ≡ got rs (length (written rs))
-  reads-back rs f l =
-      let s : length (deck p .write rs) ≤ 60000 = rw (written-as p rs) l in
-      rw (written-as p rs) at (written-reads-back p rs f s)
+  pub reads-back : (k : Deck) → deck p .Fit k → length (afresh k) ≤ 60000 → readAs p (afresh k) ≡ got k (length (afresh k))
+  reads-back k f l =
+      let w = written-as (k .version) (k .rules) p in
+      let s : length (deck p .write k) ≤ 60000 = rw w l in
+      rw w at (written-reads-back p k f s)
 
-pub reads-same : (p : Product) (rs xs : List Rule) (m : ℕ) → deck Studio .Fit rs → length (written rs) ≤ 60000 → readAs p (written rs) ≡ got xs m → (xs ≡ rs) × deck p .Fit rs
-reads-same p rs xs m f l r =
-    let w = read-writes-back p (written rs) xs m (written-bytes rs) r in
-    let e : written xs ≡ written rs = sym (w .is ∙ written-as p xs) in
-    let k : length (written xs) ≤ 60000 = rw e l in
-    let a : got xs (length (written xs)) ≡ readAs Studio (written xs) = sym (reads-back Studio xs (deck-studio p xs (w .fit) k) k) in
-    let b : got xs (length (written xs)) ≡ got rs (length (written rs)) = a ∙ ap (readAs Studio) e ∙ reads-back Studio rs f l in
-    let z : xs ≡ rs = cc b in
+pub reads-same : (p : Product) (k x : Deck) (m : ℕ) → deck Studio .Fit k → length (afresh k) ≤ 60000 → readAs p (afresh k) ≡ got x m → (x ≡ k) × deck p .Fit k
+reads-same p k x m f l r =
+    let w = read-writes-back p (afresh k) x m (written-bytes (k .version) (k .rules)) r in
+    let e : afresh x ≡ afresh k = sym (w .is ∙ written-as (x .version) (x .rules) p) in
+    let n : length (afresh x) ≤ 60000 = rw e l in
+    let a : got x (length (afresh x)) ≡ readAs Studio (afresh x) = sym (reads-back Studio x (deck-studio p x (w .fit) n) n) in
+    let b : got x (length (afresh x)) ≡ got k (length (afresh k)) = a ∙ ap (readAs Studio) e ∙ reads-back Studio k f l in
+    let z : x ≡ k = cc b in
     (z, rw z at (w .fit))

@@ -16,9 +16,10 @@ use Rattle.text.specs.Text.{string}
 use Rattle.kind.specs.declared.Product.{Product}
 use Rattle.rule.specs.Rule.{Rule, rule, fields, fromUnknown2, fromUnknown4, body, head, firstHead, classHead, className, separator, placed}
 use Rattle.rule.specs.Laws.Parts.{front, back, sizeOf, body-size, back-long}
-use Rattle.deck.specs.Deck.{mark, header, deck}
-use Rattle.deck.specs.Written.{written}
-use Rattle.deck.specs.Laws.Written.{rules, rules-cons, before, written-is}
+use Rattle.deck.specs.Deck.{Deck, mark, version, ruleList, deck}
+use Rattle.deck.specs.Written.{afresh}
+use Rattle.deck.specs.Laws.Deck.{deck-rules}
+use Rattle.deck.specs.Laws.Written.{rules, rules-cons, written-long}
 
 -- each of a list
 unfoldable pub Every : {A : Type 0} → (A → Type 0) → List A → Type 0
@@ -96,9 +97,6 @@ fits-there p i r f l =
     ((f .signature, (f .name, (flag-fits (r .on), (f .unknown2, (f .unknown3, (f .unknown4, (f .unknown5, z))))))), refl)
 
 -- ---- a deck
-header-fits : (n : ℕ) → n ≤ 256 → header .Fit n
-unfolding header _then_ seq via pair fixed bytes mark value judged number count
-header-fits n h = ((((lit< tt, refl), refl), ((((lit< tt, refl), refl), (omega arith, within-fits 0 256 n (omega arith) h)), refl)), refl)
 
 -- wherever they stand, the rules of a deck that is not too long have a Data Size of four bytes
 all-fit : (p : Product) (i : ℕ) (rs : List Rule) → Every (Fits p) rs → length (rules i rs) < 256 ^ 4 → AllFit (rule p) i rs
@@ -116,13 +114,20 @@ unfolding Every AllFit
 fits-all p i [] f = tt
 fits-all p i (r ∷ rs) f = (fits-anywhere p i r (f .0), fits-all p (i + 1) rs (f .1))
 
-pub deck-fits : (p : Product) (rs : List Rule) → Every (Fits p) rs → length rs ≤ 256 → length (written rs) ≤ 60000 → deck p .Fit rs
-unfolding deck counted via pair each
-deck-fits p rs f h l =
-    let w = written-is [] rs in
-    let n : length (rules 0 rs) < 256 ^ 4 = omega (arith, l, ap length w, length-append (before (length rs) []) (rules 0 rs)) in
-    ((header-fits (length rs) h, (refl, all-fit p 0 rs f n)), refl)
+pub deck-fits : (p : Product) (k : Deck) → version .Fit (k .version) → Every (Fits p) (k .rules) → length (k .rules) ≤ 256 → length (afresh k) ≤ 60000 → deck p .Fit k
+unfolding deck ruleList counted count seq via pair judged number each
+deck-fits p k w f h l =
+    let n : length (rules 0 (k .rules)) < 256 ^ 4 = omega (arith, l, written-long (k .version) (k .rules)) in
+    ((w, (((omega arith, within-fits 0 256 (length (k .rules)) (omega arith) h), (refl, all-fit p 0 (k .rules) f n)), refl)), refl)
 
-pub fits-deck : (p : Product) (rs : List Rule) → deck p .Fit rs → Every (Fits p) rs
-unfolding deck counted via pair each
-fits-deck p rs f = fits-all p 0 rs (f .0 .1 .1)
+pub fits-deck : (p : Product) (k : Deck) → deck p .Fit k → Every (Fits p) (k .rules)
+fits-deck p k f = fits-all p 0 (k .rules) (deck-rules p k f)
+
+pub fits-version : (p : Product) (k : Deck) → deck p .Fit k → version .Fit (k .version)
+unfolding deck seq via pair
+fits-version p k f = f .0 .0
+
+-- the version that a start makes
+pub first-version : version .Fit 1
+unfolding version _then_ seq via pair fixed bytes mark value judged number within
+first-version = ((((lit< tt, refl), refl), (lit< tt, refl)), refl)

@@ -18,62 +18,63 @@ use Rattle.element.specs.Element.{Element, element}
 use Rattle.rule.specs.declared.Fields.{Fields}
 use Rattle.rule.specs.Rule.{Rule, placed}
 use Rattle.rule.specs.Laws.Rule.{one-placed, fits-placed}
+use Rattle.deck.specs.Deck.{Deck}
 use Rattle.deck.specs.Laws.Deck.{read-writes-back}
-use Rattle.deck.specs.Written.{written}
+use Rattle.deck.specs.Written.{deckOf, afresh}
 use Rattle.room.specs.Laws.Room.{room-judged}
 use Rattle.given.specs.Given.{isText, textOf}
-use Rattle.plan.specs.Edit.{Edit, switch, rename, remove, insert, addRule, addElement, addWord, Plan, become, refuse, refuseGiven, atRule, atCopy, atSecond, atLast, atList, unlessFull, ifText, atGiven, edited, ifDone, inRoom, switched, renamed, holding, newRule}
+use Rattle.plan.specs.Edit.{Edit, switch, rename, remove, insert, addRule, addElement, addWord, Plan, become, refuse, refuseGiven, atRule, atCopy, atSecond, atLast, atList, unlessFull, ifText, atGiven, edited, inVersion, ifDone, inRoom, switched, renamed, holding, newRule}
 use Rattle.plan.specs.Handed.{HandedFields, Handed}
 use Rattle.runs.specs.Laws.Fits.{Every, every-append, every-take, every-drop, Fits, fits-deck}
 use Rattle.runs.specs.Laws.Given.{text-fits, word-fits, given-fits, word-more}
 
 -- ---- a plan that is a list, taken apart
-no-list : {B : Type 0} {c : Fault} {q : ℕ} {rs : List Rule} → refuse c q ≡ become rs → B
+no-list : {A : Type 0} {B : Type 0} {c : Fault} {q : ℕ} {x : A} → refuse c q ≡ become x → B
 no-list e = absurd (let z : _≡_ {A = ℕ} 0 1 = cc in omega arith)
 
-not-given : {B : Type 0} {c : Fault} {q : ℕ} {rs : List Rule} → refuseGiven c q ≡ become rs → B
+not-given : {A : Type 0} {B : Type 0} {c : Fault} {q : ℕ} {x : A} → refuseGiven c q ≡ become x → B
 not-given e = absurd (let z : _≡_ {A = ℕ} 0 1 = cc in omega arith)
 
-picked : (b : Bool) (q : Plan) (c : Fault) (o : ℕ) {rs : List Rule} → pick b q (refuse c o) ≡ become rs → (b ≡ true) × (q ≡ become rs)
+picked : (b : Bool) (q : Plan (List Rule)) (c : Fault) (o : ℕ) {rs : List Rule} → pick b q (refuse c o) ≡ become rs → (b ≡ true) × (q ≡ become rs)
 unfolding pick
 picked true q c o e = (refl, e)
 picked false q c o e = no-list e
 
 module _ {rs : List Rule} where
-  of-text : (s : List ℕ) (q : Plan) → ifText s q ≡ become rs → (isText s ≡ true) × (q ≡ become rs)
+  of-text : (s : List ℕ) (q : Plan (List Rule)) → ifText s q ≡ become rs → (isText s ≡ true) × (q ≡ become rs)
   unfolding ifText
   of-text s q e = picked (isText s) q _ _ e
 
-  of-full : (n : ℕ) (q : Plan) → unlessFull n q ≡ become rs → (n < 64) × (q ≡ become rs)
+  of-full : (n : ℕ) (q : Plan (List Rule)) → unlessFull n q ≡ become rs → (n < 64) × (q ≡ become rs)
   unfolding unlessFull
   of-full n q e = let w = picked (ltb n 64) q _ _ e in (ltb-true n 64 (w .0), w .1)
 
-  of-given : (a : Answer Element) (f : Element → Plan) → atGiven a f ≡ become rs → (x : Element) × ((n : ℕ) × ((a ≡ got x n) × (f x ≡ become rs)))
+  of-given : (a : Answer Element) (f : Element → Plan (List Rule)) → atGiven a f ≡ become rs → (x : Element) × ((n : ℕ) × ((a ≡ got x n) × (f x ≡ become rs)))
   unfolding atGiven
   of-given (got x n) f e = (x, (n, (refl, e)))
   of-given (refused c q) f e = not-given e
 
-  of-second : (a : Answer (List Rule)) (f : List Rule → Plan) → atSecond a f ≡ become rs → (qs : List Rule) × ((n : ℕ) × ((a ≡ got qs n) × (f qs ≡ become rs)))
+  of-second : (a : Answer Deck) (f : List Rule → Plan (List Rule)) → atSecond a f ≡ become rs → (k : Deck) × ((n : ℕ) × ((a ≡ got k n) × (f (k .rules) ≡ become rs)))
   unfolding atSecond
-  of-second (got qs n) f e = (qs, (n, (refl, e)))
+  of-second (got k n) f e = (k, (n, (refl, e)))
   of-second (refused c q) f e = not-given e
 
-  of-rule : (ys : List Rule) (f : Rule → List Rule → Plan) → atRule ys f ≡ become rs → (r : Rule) × ((later : List Rule) × ((ys ≡ r ∷ later) × (f r later ≡ become rs)))
+  of-rule : (ys : List Rule) (f : Rule → List Rule → Plan (List Rule)) → atRule ys f ≡ become rs → (r : Rule) × ((later : List Rule) × ((ys ≡ r ∷ later) × (f r later ≡ become rs)))
   unfolding atRule
   of-rule [] f e = no-list e
   of-rule (r ∷ later) f e = (r, (later, (refl, e)))
 
-  of-copy : (ys : List Rule) (f : Rule → Plan) → atCopy ys f ≡ become rs → (r : Rule) × ((later : List Rule) × ((ys ≡ r ∷ later) × (f r ≡ become rs)))
+  of-copy : (ys : List Rule) (f : Rule → Plan (List Rule)) → atCopy ys f ≡ become rs → (r : Rule) × ((later : List Rule) × ((ys ≡ r ∷ later) × (f r ≡ become rs)))
   unfolding atCopy
   of-copy [] f e = no-list e
   of-copy (r ∷ later) f e = (r, (later, (refl, e)))
 
-  of-last : (ys : List Rule) (f : Rule → Plan) → atLast ys f ≡ become rs → (r : Rule) × ((later : List Rule) × ((ys ≡ r ∷ later) × (f r ≡ become rs)))
+  of-last : (ys : List Rule) (f : Rule → Plan (List Rule)) → atLast ys f ≡ become rs → (r : Rule) × ((later : List Rule) × ((ys ≡ r ∷ later) × (f r ≡ become rs)))
   unfolding atLast
   of-last [] f e = no-list e
   of-last (r ∷ later) f e = (r, (later, (refl, e)))
 
-  of-list : (ys : List Element) (f : ℕ → List Text → Plan) → atList ys f ≡ become rs → (id : ℕ) × ((ws : List Text) × ((later : List Element) × ((ys ≡ (id, words ws) ∷ later) × (f id ws ≡ become rs))))
+  of-list : (ys : List Element) (f : ℕ → List Text → Plan (List Rule)) → atList ys f ≡ become rs → (id : ℕ) × ((ws : List Text) × ((later : List Element) × ((ys ≡ (id, words ws) ∷ later) × (f id ws ≡ become rs))))
   unfolding atList
   of-list [] f e = no-list e
   of-list ((id, plain) ∷ later) f e = no-list e
@@ -81,13 +82,13 @@ module _ {rs : List Rule} where
   of-list ((id, sizes a b) ∷ later) f e = no-list e
   of-list ((id, span a b) ∷ later) f e = no-list e
 
--- 18, 19 and 20 were judged
-pub in-room : (cap : ℕ) (q : Plan) {rs : List Rule} → inRoom cap q ≡ become rs → (q ≡ become rs) × ((length rs ≤ 256) × ((length (written rs) ≤ 60000) × (length (written rs) ≤ cap)))
-in-room cap (become xs) {rs} e =
-    room-judged (length xs) (length (written xs)) cap (λ o. ifDone o xs ≡ become rs → (become xs ≡ become rs) × ((length rs ≤ 256) × ((length (written rs) ≤ 60000) × (length (written rs) ≤ cap))))
-    (λ w z. let u : xs ≡ rs = cc in rw (← u) (refl, (w .few, (w .short, w .inside)))) (λ l. no-list) (λ l. no-list) (λ l. no-list) e
-in-room cap (refuse c q) e = no-list e
-in-room cap (refuseGiven c q) e = not-given e
+-- 18, 19 and 20 were judged, and the version stays
+pub in-room : (cap v : ℕ) (q : Plan (List Rule)) {k : Deck} → inRoom cap (inVersion v q) ≡ become k → (q ≡ become (k .rules)) × ((k .version ≡ v) × ((length (k .rules) ≤ 256) × ((length (afresh k) ≤ 60000) × (length (afresh k) ≤ cap))))
+in-room cap v (become xs) {k} e =
+    room-judged (length xs) (length (afresh (deckOf v xs))) cap (λ o. ifDone o (deckOf v xs) ≡ become k → (become xs ≡ become (k .rules)) × ((k .version ≡ v) × ((length (k .rules) ≤ 256) × ((length (afresh k) ≤ 60000) × (length (afresh k) ≤ cap)))))
+    (λ w z. let u : deckOf v xs ≡ k = cc in rw (← u) (refl, (refl, (w .few, (w .short, w .inside))))) (λ l. no-list) (λ l. no-list) (λ l. no-list) e
+in-room cap v (refuse c q) e = no-list e
+in-room cap v (refuseGiven c q) e = not-given e
 
 -- ---- an element of a rule
 all-rest : {A : Type 0} (a : ℕ → Format A) (i k : ℕ) (xs ys : List A) (x : A) → AllFit a i xs → drop k xs ≡ x ∷ ys → a (i + k) .Fit x
@@ -159,7 +160,7 @@ module _ (p : Product) (rs : List Rule) (f : Every (Fits p) rs) where
       let s = of-second _ _ q in
       let b = picked (leb k (length rs)) _ _ _ (s .1 .1 .1) in
       let o = of-copy _ _ (b .1) in
-      let g = every-drop (Fits p) j (s .0) (fits-deck p (s .0) (read-writes-back p second (s .0) (s .1 .0) h (s .1 .1 .0) .fit)) in
+      let g = every-drop (Fits p) j (s .0 .rules) (fits-deck p (s .0) (read-writes-back p second (s .0) (s .1 .0) h (s .1 .1 .0) .fit)) in
       let w : Fits p (o .0) × Every (Fits p) (o .1 .0) = rw (o .1 .1 .0) at g in
       rw (← became (o .1 .1 .1)) (put-k k _ (w .0, every-drop (Fits p) k rs f))
   edited-fits (addRule name g id s) xs h q =

@@ -12,21 +12,20 @@ use Rattle.kind.specs.declared.Product.{Product}
 use Rattle.kind.specs.declared.Product.the-variants.{Studio}
 use Rattle.kind.specs.declared.Edition.the-variants as Edition
 use Rattle.kind.specs.Kinds.{editionOf}
-use Rattle.rule.specs.Rule.{Rule}
-use Rattle.deck.specs.Deck.{deck, readAs}
+use Rattle.deck.specs.Deck.{Deck, deck, readAs}
 use Rattle.deck.specs.Laws.Deck.{read-writes-back}
-use Rattle.deck.specs.Written.{written}
+use Rattle.deck.specs.Written.{deckOf, afresh}
 use Rattle.deck.specs.Laws.Written.{written-as}
 use Rattle.buffer.specs.Laid.{laid}
 use Rattle.buffer.specs.Laws.Laid.{laid-start, take-laid, length-laid, drop-laid}
 use Rattle.room.specs.Laws.Room.{room-judged}
-use Rattle.plan.specs.Edit.{Edit, edited, inRoom}
+use Rattle.plan.specs.Edit.{Edit}
 use Rattle.plan.specs.Handed.{Handed}
 use Rattle.start.specs.Start.{startSays, startLeaves}
 use Rattle.start.specs.Laws.Start.{start-laid, empty-long}
-use Rattle.runs.specs.Laws.Fits.{deck-fits, Every}
+use Rattle.runs.specs.Laws.Fits.{deck-fits, first-version, Every}
 use Rattle.runs.specs.Laws.Both.{deck-studio, reads-back}
-use Rattle.runs.specs.Run.{Buffer, Call, Promise, Ran, Steps, Rules, taken, stepRules, runRules, bufferWith}
+use Rattle.runs.specs.Run.{Buffer, Call, Promise, Ran, Steps, Rules, taken, planIn, stepRules, runRules, bufferWith}
 use Rattle.runs.specs.Laws.Run.{ran-is, run, Good, good-taken, good-run, runs}
 use Rattle.runs.specs.Left.{Left, calls, runIn}
 
@@ -37,16 +36,16 @@ pub record Begins (p : Product) (d : List ℕ) (l : Rules) (b : Buffer) : Type 0
   pub is : b ≡ bufferWith d l
 
 -- at an accepted deck in the first n bytes
-pub at-accepted : (p : Product) (d : List ℕ) (n m : ℕ) (rs : List Rule) → Bytes d → n ≤ length d → readAs p (take n d) ≡ got rs m → Begins p d (rs, n) (d, n)
-at-accepted p d n m rs bs l r =
-    let w = read-writes-back p (take n d) rs m (bytes-take n d bs) r in
-    let t : take n d ≡ written rs = w .is ∙ written-as p rs in
-    let k : length (written rs) ≡ n = sym (ap length t) ∙ length-take-le n d l in
-    let s : length (written rs) ≤ 60000 = omega (arith, w .short, ap length t) in
+pub at-accepted : (p : Product) (d : List ℕ) (n m : ℕ) (k : Deck) → Bytes d → n ≤ length d → readAs p (take n d) ≡ got k m → Begins p d (k, n) (d, n)
+at-accepted p d n m k bs l r =
+    let w = read-writes-back p (take n d) k m (bytes-take n d bs) r in
+    let t : take n d ≡ afresh k = w .is ∙ written-as (k .version) (k .rules) p in
+    let e : length (afresh k) ≡ n = sym (ap length t) ∙ length-take-le n d l in
+    let s : length (afresh k) ≤ 60000 = omega (arith, w .short, ap length t) in
     record {
-      good = record { fit = deck-studio p rs (w .fit) s; short = s; below = omega arith; room = l };
+      good = record { fit = deck-studio p k (w .fit) s; short = s; below = omega arith; room = l };
       fit = w .fit;
-      is = ap₂ (λ (a : List ℕ) (b : ℕ). (a, b)) (laid-start d n l ∙ ap (λ (x : List ℕ). laid x n d) t) (sym k);
+      is = ap₂ (λ (a : List ℕ) (b : ℕ). (a, b)) (laid-start d n l ∙ ap (λ (x : List ℕ). laid x n d) t) (sym e);
     }
 
 -- an accepted start: "It begins a run of edits and is no member of one"
@@ -54,30 +53,30 @@ accepted-start : (cap : ℕ) → codeOf (startSays cap) ≡ 0 → (7 ≤ cap) ×
 accepted-start cap =
     room-judged 0 7 cap (λ o. codeOf o ≡ 0 → (7 ≤ cap) × (placeOf o ≡ 7)) (λ w e. (w .inside, refl)) (λ l. absurd (omega arith)) (λ l. absurd (omega arith)) (λ l e. absurd (omega arith))
 
-pub at-start : (p : Product) (d : List ℕ) → codeOf (startSays (length d)) ≡ 0 → Begins p d ([], 7) (startLeaves d, placeOf (startSays (length d)))
+pub at-start : (p : Product) (d : List ℕ) → codeOf (startSays (length d)) ≡ 0 → Begins p d (deckOf 1 [], 7) (startLeaves d, placeOf (startSays (length d)))
 unfolding Every
 at-start p d z =
     let s = accepted-start (length d) z in
     let e = empty-long in
     record {
-      good = record { fit = deck-fits Studio [] tt (omega arith) (omega arith); short = omega arith; below = omega arith; room = s .0 };
-      fit = deck-fits p [] tt (omega arith) (omega arith);
+      good = record { fit = deck-fits Studio (deckOf 1 []) first-version tt (omega arith) (omega arith); short = omega arith; below = omega arith; room = s .0 };
+      fit = deck-fits p (deckOf 1 []) first-version tt (omega arith) (omega arith);
       is = ap₂ (λ (a : List ℕ) (b : ℕ). (a, b)) (start-laid d (s .0)) (s .1 ∙ sym empty-long);
     }
 
 left : (p : Product) (d : List ℕ) (l : Rules) (b : Buffer) → Good (length d) l → deck p .Fit (l .0) → b ≡ bufferWith d l → Left p d l b
 left p d l b g f e =
-    let t : take (length (written (l .0))) (laid (written (l .0)) (l .1) d) ≡ written (l .0) = take-laid (written (l .0)) (l .1) d refl in
+    let t : take (length (afresh (l .0))) (laid (afresh (l .0)) (l .1) d) ≡ afresh (l .0) = take-laid (afresh (l .0)) (l .1) d refl in
     rw e
     (record {
       holds = refl;
       reads = ap (readAs p) t ∙ reads-back p (l .0) f (g .short);
-      untouched = drop-laid (written (l .0)) (l .1) d (g .below);
-      as-long = length-laid (written (l .0)) (l .1) d (g .below) (g .room);
+      untouched = drop-laid (afresh (l .0)) (l .1) d (g .below);
+      as-long = length-laid (afresh (l .0)) (l .1) d (g .below) (g .room);
     })
 
 module _ (edition : ℕ) (p : Product) (ed : editionOf edition ≡ Edition.Of p) (cap : ℕ) where
-  step-in : (e : Edit) (l : Rules) → Good cap l → deck p .Fit (l .0) → stepRules cap (edition, e) l ≡ taken (inRoom cap (edited p e (l .0))) l
+  step-in : (e : Edit) (l : Rules) → Good cap l → deck p .Fit (l .0) → stepRules cap (edition, e) l ≡ taken (planIn p cap e (l .0)) l
   unfolding stepRules
   step-in e l g f = let r = reads-back p (l .0) f (g .short) in rw (ed, r)
 
@@ -86,7 +85,7 @@ module _ (edition : ℕ) (p : Product) (ed : editionOf edition ≡ Edition.Of p)
   run-in [] l h g f = (refl, f)
   run-in (e ∷ es) l h g f =
       let w = good-taken cap p e l (h .0) f g in
-      let i = run-in es (taken (inRoom cap (edited p e (l .0))) l) (h .1) (w .0) (w .1) in
+      let i = run-in es (taken (planIn p cap e (l .0)) l) (h .1) (w .0) (w .1) in
       (ap (runRules cap (calls edition es)) (step-in e l g f) ∙ i .0, i .1)
 
 -- ---- DEMAND 3

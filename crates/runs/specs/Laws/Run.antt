@@ -1,4 +1,4 @@
--- Laws of ../Run.antt: a run of edits of a buffer is the same run on the list of rules.
+-- Laws of ../Run.antt: a run of edits of a buffer is the same run on the deck.
 use Prim.Native.Nat.{ℕ, _≤_}
 use native.Mathlib.Omega.{arith}
 use mathlib.Core.Path.{_≡_, refl, ap, ap₂, _∙_}
@@ -12,17 +12,16 @@ use Rattle.kind.specs.declared.Product.the-variants.{Studio}
 use Rattle.kind.specs.declared.Edition.{Edition}
 use Rattle.kind.specs.declared.Edition.the-variants as Edition
 use Rattle.kind.specs.Kinds.{editionOf}
-use Rattle.rule.specs.Rule.{Rule}
-use Rattle.deck.specs.Deck.{deck, readAs}
-use Rattle.deck.specs.Written.{written}
+use Rattle.deck.specs.Deck.{Deck, version, deck, readAs}
+use Rattle.deck.specs.Written.{afresh}
 use Rattle.buffer.specs.Laid.{laid}
 use Rattle.buffer.specs.Laws.Laid.{take-laid, length-laid, laid-again}
-use Rattle.plan.specs.Edit.{Edit, Plan, become, refuse, refuseGiven, edited, inRoom, plan, planBy, planned, says, leaves, Edits}
+use Rattle.plan.specs.Edit.{Edit, Plan, become, refuse, refuseGiven, edited, plan, planBy, planned, says, leaves, Edits}
 use Rattle.plan.specs.Handed.{Handed}
-use Rattle.runs.specs.Laws.Fits.{deck-fits, fits-deck, Every}
+use Rattle.runs.specs.Laws.Fits.{deck-fits, fits-deck, fits-version, Every}
 use Rattle.runs.specs.Laws.Both.{deck-studio, reads-same}
 use Rattle.runs.specs.Laws.Kept.{edited-fits, in-room}
-use Rattle.runs.specs.Run.{Buffer, Call, lengthFrom, stepBy, step, Promise, Ran, Steps, Called, Rules, taken, ifAccepted, planRules, stepRules, runRules, bufferWith}
+use Rattle.runs.specs.Run.{Buffer, Call, lengthFrom, stepBy, step, Promise, Ran, Steps, Called, Rules, taken, ifAccepted, planIn, planRules, stepRules, runRules, bufferWith}
 
 unfoldable pub run : List Call → Buffer → Buffer
 run [] b = b
@@ -48,21 +47,22 @@ called edition n e d r d′ f = (f .0, edit-step edition n e d r d′ (f .1))
 -- what stays true of a list through a run
 pub record Good (cap : ℕ) (l : Rules) : Type 0 where
   pub fit : deck Studio .Fit (l .0)
-  pub short : length (written (l .0)) ≤ 60000
-  pub below : length (written (l .0)) ≤ l .1
+  pub short : length (afresh (l .0)) ≤ 60000
+  pub below : length (afresh (l .0)) ≤ l .1
   pub room : l .1 ≤ cap
 
 module _ (cap : ℕ) where
   -- an edit that a product takes leaves a list that it takes
-  pub good-taken : (p : Product) (e : Edit) (l : Rules) → Handed e → deck p .Fit (l .0) → Good cap l → Good cap (taken (inRoom cap (edited p e (l .0))) l) × deck p .Fit (taken (inRoom cap (edited p e (l .0))) l .0)
-  good-taken p e l h f g = go (inRoom cap (edited p e (l .0))) refl
+  pub good-taken : (p : Product) (e : Edit) (l : Rules) → Handed e → deck p .Fit (l .0) → Good cap l → Good cap (taken (planIn p cap e (l .0)) l) × deck p .Fit (taken (planIn p cap e (l .0)) l .0)
+  good-taken p e l h f g = go (planIn p cap e (l .0)) refl
     where
-      go : (q : Plan) → inRoom cap (edited p e (l .0)) ≡ q → Good cap (taken q l) × deck p .Fit (taken q l .0)
-      go (become rs) z =
-          let o = in-room cap (edited p e (l .0)) z in
-          let w = deck-fits p rs (edited-fits p (l .0) (fits-deck p (l .0) f) e rs h (o .0)) (o .1 .0) (o .1 .1 .0) in
+      go : (q : Plan Deck) → planIn p cap e (l .0) ≡ q → Good cap (taken q l) × deck p .Fit (taken q l .0)
+      go (become k) z =
+          let o = in-room cap (l .0 .version) (edited p e (l .0 .rules)) z in
+          let u : version .Fit (k .version) = rw (o .1 .0) (fits-version p (l .0) f) in
+          let w = deck-fits p k u (edited-fits p (l .0 .rules) (fits-deck p (l .0) f) e (k .rules) h (o .0)) (o .1 .1 .0) (o .1 .1 .1 .0) in
           let v = g .room in
-          (record { fit = deck-studio p rs w (o .1 .1 .0); short = o .1 .1 .0; below = omega arith; room = omega (arith, o .1 .1 .1) }, w)
+          (record { fit = deck-studio p k w (o .1 .1 .1 .0); short = o .1 .1 .1 .0; below = omega arith; room = omega (arith, o .1 .1 .1 .1) }, w)
       go (refuse c q) z = (g, f)
       go (refuseGiven c q) z = (g, f)
 
@@ -70,12 +70,12 @@ module _ (cap : ℕ) where
   unfolding stepRules
   good-step c l h g = by (editionOf (c .0))
     where
-      read : (p : Product) (a : Answer (List Rule)) → readAs p (written (l .0)) ≡ a → Good cap (taken (ifAccepted a (inRoom cap (edited p (c .1) (l .0)))) l)
+      read : (p : Product) (a : Answer Deck) → readAs p (afresh (l .0)) ≡ a → Good cap (taken (ifAccepted a (planIn p cap (c .1) (l .0))) l)
       read p (got xs m) r = good-taken p (c .1) l h (reads-same p (l .0) xs m (g .fit) (g .short) r .1) g .0
       read p (refused x q) r = g
 
       by : (o : Edition) → Good cap (taken (planRules o cap (c .1) (l .0)) l)
-      by (Edition.Of p) = read p (readAs p (written (l .0))) refl
+      by (Edition.Of p) = read p (readAs p (afresh (l .0))) refl
       by Edition.Unknown = g
 
   pub good-run : (cs : List Call) (l : Rules) → Every (λ c. Handed (c .1)) cs → Good cap l → Good cap (runRules cap cs l)
@@ -85,30 +85,30 @@ module _ (cap : ℕ) where
 
 module _ (d : List ℕ) where
   -- the deck is read as its list
-  plan-is : (c : Call) (l : Rules) → Good (length d) l → planned (c .0) (length (written (l .0))) (laid (written (l .0)) (l .1) d) (c .1) ≡ planRules (editionOf (c .0)) (length d) (c .1) (l .0)
+  plan-is : (c : Call) (l : Rules) → Good (length d) l → planned (c .0) (length (afresh (l .0))) (laid (afresh (l .0)) (l .1) d) (c .1) ≡ planRules (editionOf (c .0)) (length d) (c .1) (l .0)
   unfolding planned pick
   plan-is c l g = by (editionOf (c .0))
     where
-      read : (p : Product) (a : Answer (List Rule)) → readAs p (written (l .0)) ≡ a → plan p (length d) (c .1) a ≡ ifAccepted a (inRoom (length d) (edited p (c .1) (l .0)))
-      read p (got xs m) r = ap (λ (rs : List Rule). inRoom (length d) (edited p (c .1) rs)) (reads-same p (l .0) xs m (g .fit) (g .short) r .0)
+      read : (p : Product) (a : Answer Deck) → readAs p (afresh (l .0)) ≡ a → plan p (length d) (c .1) a ≡ ifAccepted a (planIn p (length d) (c .1) (l .0))
+      read p (got xs m) r = ap (planIn p (length d) (c .1)) (reads-same p (l .0) xs m (g .fit) (g .short) r .0)
       read p (refused x q) r = refl
 
-      by : (o : Edition) → planBy o (length (written (l .0))) (laid (written (l .0)) (l .1) d) (c .1) ≡ planRules o (length d) (c .1) (l .0)
+      by : (o : Edition) → planBy o (length (afresh (l .0))) (laid (afresh (l .0)) (l .1) d) (c .1) ≡ planRules o (length d) (c .1) (l .0)
       by (Edition.Of p) =
-          let y = laid (written (l .0)) (l .1) d in
-          let n = length (written (l .0)) in
-          let t : take n y ≡ written (l .0) = take-laid (written (l .0)) (l .1) d refl in
-          let w : length y ≡ length d = length-laid (written (l .0)) (l .1) d (g .below) (g .room) in
+          let y = laid (afresh (l .0)) (l .1) d in
+          let n = length (afresh (l .0)) in
+          let t : take n y ≡ afresh (l .0) = take-laid (afresh (l .0)) (l .1) d refl in
+          let w : length y ≡ length d = length-laid (afresh (l .0)) (l .1) d (g .below) (g .room) in
           let b : n ≤ length y = omega (arith, g .below, g .room, w) in
-          rw (le-leb n (length y) b, t, w) (read p (readAs p (written (l .0))) refl)
+          rw (le-leb n (length y) b, t, w) (read p (readAs p (afresh (l .0))) refl)
       by Edition.Unknown = refl
 
   step-is : (c : Call) (l : Rules) → Good (length d) l → step c (bufferWith d l) ≡ bufferWith d (stepRules (length d) c l)
   unfolding step stepRules leaves says
   step-is c l g = rw (plan-is c l g) (go (planRules (editionOf (c .0)) (length d) (c .1) (l .0)))
     where
-      go : (q : Plan) → stepBy q (bufferWith d l) ≡ bufferWith d (taken q l)
-      go (become rs) = ap (λ (z : List ℕ). (z, length (written rs))) (laid-again (written rs) (written (l .0)) (l .1) d (g .below))
+      go : (q : Plan Deck) → stepBy q (bufferWith d l) ≡ bufferWith d (taken q l)
+      go (become k) = ap (λ (z : List ℕ). (z, length (afresh k))) (laid-again (afresh k) (afresh (l .0)) (l .1) d (g .below))
       go (refuse c q) = refl
       go (refuseGiven c q) = refl
 

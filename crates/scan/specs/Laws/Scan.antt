@@ -12,7 +12,7 @@ use Rattle.scan.specs.declared.Scan.the-variants as Scan
 
 -- a refusal as that of a pass
 abbrev pub noScan : Outcome → Scan
-noScan (Done n) = Scan.Is 0 0
+noScan (Done n) = Scan.Is 0 0 0 0
 noScan (No c p) = Scan.No c p
 noScan (Given c p) = Scan.No c p
 

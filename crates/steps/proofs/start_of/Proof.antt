@@ -6,13 +6,13 @@ use Rattle.steps.proofs.start_of.Statement.{statement}
 use Rattle.steps.proofs.start_of.Tie as tie
 
 abbrev Inv-loop : tie.InvT-loop
-Inv-loop s k i₀ p₀ i p = Reached s k i (Got p 0) × (i ≤ k)
+Inv-loop s base k i₀ p₀ i p = Reached s base k i (Got p 0) × (i ≤ k)
 
 abbrev μ-loop : tie.MeasureT-loop
-μ-loop s k i₀ p₀ i p = k - i
+μ-loop s base k i₀ p₀ i p = k - i
 
 loop-holds : tie.Need-loop-holds Inv-loop μ-loop
-loop-holds c = (reached-start _ _, search needs)
+loop-holds c = (reached-start _ _ _, search needs)
 
 returns : tie.Need-returns Inv-loop μ-loop
 returns c = search (needs, reached-stop)

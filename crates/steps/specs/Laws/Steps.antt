@@ -14,7 +14,6 @@ use Rattle.format.specs.declared.Fault.the-variants as Fault
 use Rattle.format.specs.declared.Read.{Read}
 use Rattle.format.specs.declared.Read.the-variants.{Got, No}
 use Rattle.format.specs.Format.{got, Bytes, pick}
-use Rattle.format.specs.ReadWrite.{eachWrite}
 use Rattle.format.specs.Laws.ReadWrite.{length-spelt}
 use Rattle.format.specs.Combinators.{number}
 use Rattle.format.specs.Laws.Seen.{seen, itself, unlike, got-at, none}
@@ -28,62 +27,60 @@ use Rattle.rule.specs.Rule.{Rule, rule}
 use Rattle.rule.specs.Laws.Parts.{front, back, sizeOf, body-size, rule-is}
 use Rattle.rule.specs.Places.{ruleBytes, enabledAt}
 use Rattle.rule.specs.Laws.Places.{rule-parts}
-use Rattle.deck.specs.Deck.{deck, readAs}
-use Rattle.deck.specs.Laws.Deck.{deck-row, read-writes-back}
-use Rattle.deck.specs.Written.{written, startOf}
-use Rattle.deck.specs.Laws.Written.{written-as, written-is, rules, rules-cons, before, before-long, start-is, start-as}
+use Rattle.deck.specs.Deck.{Deck, deck, baseOf, readAs}
+use Rattle.deck.specs.Laws.Deck.{read-writes-back}
+use Rattle.deck.specs.Written.{deckOf, written, startOf}
+use Rattle.deck.specs.Laws.Written.{deck-row, written-as, written-is, written-at, rules, rules-cons, before, before-long, start-as}
 
--- ---- a sound deck: its rules fit, and it is what they are written as
-pub record Sound (p : Product) (s : List ℕ) (rs : List Rule) : Type 0 where
-  pub fit : deck p .Fit rs
-  pub is : s ≡ written rs
+-- ---- a sound deck: its rules fit, and it is what they are written as in its version
+pub record Sound (p : Product) (v : ℕ) (s : List ℕ) (rs : List Rule) : Type 0 where
+  pub fit : deck p .Fit (deckOf v rs)
+  pub is : s ≡ written v rs
   pub short : length s ≤ 60000
 
 -- what was accepted is sound
-pub sound-read : (p : Product) (s : List ℕ) (rs : List Rule) (n : ℕ) → Bytes s → readAs p s ≡ got rs n → Sound p s rs
-sound-read p s rs n bs e = let w = read-writes-back p s rs n bs e in record { fit = w .fit; is = w .is ∙ written-as p rs; short = w .short }
+pub sound-read : (p : Product) (s : List ℕ) (k : Deck) (n : ℕ) → Bytes s → readAs p s ≡ got k n → Sound p (k .version) s (k .rules)
+sound-read p s k n bs e = let w = read-writes-back p s k n bs e in record { fit = w .fit; is = w .is ∙ written-as (k .version) (k .rules) p; short = w .short }
 
 -- rule k of a sound deck, with what stands before it and behind it
-pub record Here (p : Product) (s : List ℕ) (rs : List Rule) (k : ℕ) : Type 0 where
+pub record Here (p : Product) (v : ℕ) (s : List ℕ) (rs : List Rule) (k : ℕ) : Type 0 where
   pub r : Rule
   pub later : List Rule
   pub from : drop k rs ≡ r ∷ later
   pub fits : rule p k .Fit r
-  pub is : s ≡ before (length rs) (take k rs) ++ (front r ++ (back k (r .elements) ++ rules (k + 1) later))
-  pub starts : length (before (length rs) (take k rs)) ≡ startOf rs k
-  pub ends : startOf rs (k + 1) ≡ startOf rs k + (length (front r) + length (back k (r .elements)))
+  pub is : s ≡ before v rs k ++ (front r ++ (back k (r .elements) ++ rules (k + 1) later))
+  pub starts : length (before v rs k) ≡ startOf v rs k
+  pub ends : startOf v rs (k + 1) ≡ startOf v rs k + (length (front r) + length (back k (r .elements)))
 
--- its rules stand behind its header
-sound-row : (p : Product) (s : List ℕ) (rs : List Rule) → Sound p s rs → Row (rule p) s 0 7 rs []
-sound-row p s rs o = deck-row p s rs (o .fit) (o .is ∙ sym (written-as p rs))
+-- its rules stand where they start
+sound-row : (p : Product) (v : ℕ) (s : List ℕ) (rs : List Rule) → Sound p v s rs → Row (rule p) s 0 (baseOf v (length rs)) rs []
+sound-row p v s rs o = deck-row p s (deckOf v rs) (o .fit) (o .is ∙ sym (written-as v rs p))
 
-pub here : (p : Product) (s : List ℕ) (rs : List Rule) (k : ℕ) → Sound p s rs → k < length rs → Here p s rs k
-here p s rs k o l = go (nth (rule p) s 7 k (startIn (rule p) 7 rs k) rs [] refl (sound-row p s rs o) l)
+pub here : (p : Product) (v : ℕ) (s : List ℕ) (rs : List Rule) (k : ℕ) → Sound p v s rs → k < length rs → Here p v s rs k
+here p v s rs k o l = go (nth (rule p) s (baseOf v (length rs)) k (startIn (rule p) (baseOf v (length rs)) rs k) rs [] refl (sound-row p v s rs o) l)
   where
-    go : Nth (rule p) s 7 k (startIn (rule p) 7 rs k) rs → Here p s rs k
-    go v =
-        let w : take k rs ++ (v .x ∷ v .ys) ≡ rs = ap (λ (z : List Rule). take k rs ++ z) (sym (v .whole)) ∙ take-append-drop k rs in
-        let n : length (take k rs) ≡ k = length-take-le k rs (omega arith) in
-        let i = written-is (take k rs) (v .x ∷ v .ys) in
+    go : Nth (rule p) s (baseOf v (length rs)) k (startIn (rule p) (baseOf v (length rs)) rs k) rs → Here p v s rs k
+    go y =
+        let i = written-at v rs k (omega arith) in
         record {
-          r = v .x;
-          later = v .ys;
-          from = v .whole;
-          fits = v .stands .fit;
-          is = o .is ∙ (rw (w, n, rules-cons) at i);
-          starts = before-long (length rs) (take k rs) ∙ sym (start-is rs k);
-          ends = omega (arith, start-as p rs k, start-as p rs (k + 1), start-more (rule p) 7 k rs (v .ys) (v .x) (v .whole), ap length (rule-is p k (v .x)), length-append (front (v .x)) (back k (v .x .elements)));
+          r = y .x;
+          later = y .ys;
+          from = y .whole;
+          fits = y .stands .fit;
+          is = o .is ∙ (rw (y .whole, rules-cons) at i);
+          starts = before-long v rs k;
+          ends = omega (arith, start-as v rs k p, start-as v rs (k + 1) p, start-more (rule p) (baseOf v (length rs)) k rs (y .ys) (y .x) (y .whole), ap length (rule-is p k (y .x)), length-append (front (y .x)) (back k (y .x .elements)));
         }
 
 -- rule k of a sound deck stands where it starts
-pub here-stands : (p : Product) (s : List ℕ) (rs : List Rule) (k : ℕ) (h : Here p s rs k) → Held (rule p k) s (startOf rs k) (h .r)
-here-stands p s rs k h =
+pub here-stands : (p : Product) (v : ℕ) (s : List ℕ) (rs : List Rule) (k : ℕ) (h : Here p v s rs k) → Held (rule p k) s (startOf v rs k) (h .r)
+here-stands p v s rs k h =
     let L = rules (k + 1) (h .later) in
     let w : front (h .r) ++ (back k (h .r .elements) ++ L) ≡ rule p k .write (h .r) ++ L = rw (rule-is p k (h .r), append-assoc) in
-    (L, record { fit = h .fits; is = ap (drop (startOf rs k)) (h .is) ∙ drop-at (before (length rs) (take k rs)) _ (startOf rs k) (h .starts) ∙ w })
+    (L, record { fit = h .fits; is = ap (drop (startOf v rs k)) (h .is) ∙ drop-at (before v rs k) _ (startOf v rs k) (h .starts) ∙ w })
 
-pub here-at : (p : Product) (s : List ℕ) (rs : List Rule) (k a : ℕ) (h : Here p s rs k) → a ≡ startOf rs k → Held (rule p k) s a (h .r)
-here-at p s rs k a h e = rw e (here-stands p s rs k h)
+pub here-at : (p : Product) (v : ℕ) (s : List ℕ) (rs : List Rule) (k a : ℕ) (h : Here p v s rs k) → a ≡ startOf v rs k → Held (rule p k) s a (h .r)
+here-at p v s rs k a h e = rw e (here-stands p v s rs k h)
 
 -- ---- a rule that stands at a place, as it is stepped over
 
@@ -201,60 +198,60 @@ module _ (s : List ℕ) (at : ℕ) {r : Read} (f : Follows s at r) (p : Product)
 
 -- ---- from rule to rule
 
--- whatever rules stand behind the header, k of them or more, r tells where rule i of them starts
-unfoldable pub Reached : List ℕ → ℕ → ℕ → Read → Type 0
-Reached s k i r = (p : Product) → Skipped (rule p) s 7 k i r
+-- whatever rules stand from a place on, k of them or more, r tells where rule i of them starts
+unfoldable pub Reached : List ℕ → ℕ → ℕ → ℕ → Read → Type 0
+Reached s base k i r = (p : Product) → Skipped (rule p) s base k i r
 
-module _ (s : List ℕ) (k : ℕ) where
-  pub reached-start : Reached s k 0 (Got 7 0)
+module _ (s : List ℕ) (base k : ℕ) where
+  pub reached-start : Reached s base k 0 (Got base 0)
   unfolding Reached
-  reached-start p = skip-start (rule p) s 7 k
+  reached-start p = skip-start (rule p) s base k
 
   module _ (i at : ℕ) where
-    pub reached-go : {r : Read} {v q : ℕ} → Reached s k i (Got at 0) → i < k → Follows s at r → r ≡ Got q v → Reached s k (i + 1) (Got q 0)
+    pub reached-go : {r : Read} {v q : ℕ} → Reached s base k i (Got at 0) → i < k → Follows s at r → r ≡ Got q v → Reached s base k (i + 1) (Got q 0)
     unfolding Reached
-    reached-go w l f h p = skip-step (rule p) s 7 k i at (w p) _ l (follows-got s at f p i h)
+    reached-go w l f h p = skip-step (rule p) s base k i at (w p) _ l (follows-got s at f p i h)
 
-    pub reached-stop : {r : Read} {c : Fault} {q : ℕ} → Reached s k i (Got at 0) → i < k → Follows s at r → r ≡ No q c → Reached s k k r
+    pub reached-stop : {r : Read} {c : Fault} {q : ℕ} → Reached s base k i (Got at 0) → i < k → Follows s at r → r ≡ No q c → Reached s base k k r
     unfolding Reached Skipped
-    reached-stop w l f h p xs t row m = let n = skip-nth (rule p) s 7 k i at (w p) xs t row m l in follows-never s at f p i h (n .x) (n .tail, n .stands)
+    reached-stop w l f h p xs t row m = let n = skip-nth (rule p) s base k i at (w p) xs t row m l in follows-never s at f p i h (n .x) (n .tail, n .stands)
 
-    pub reached-end : Reached s k i (Got at 0) → i ≤ k → k ≤ i → Reached s k k (Got at 0)
+    pub reached-end : Reached s base k i (Got at 0) → i ≤ k → k ≤ i → Reached s base k k (Got at 0)
     unfolding Reached
-    reached-end w l m p = skip-end (rule p) s 7 k i at (w p) l m
+    reached-end w l m p = skip-end (rule p) s base k i at (w p) l m
 
   -- of a sound deck
-  module _ (i : ℕ) {r : Read} (w : Reached s k i r) (p : Product) (rs : List Rule) (o : Sound p s rs) (l : k ≤ length rs) where
-    pub reached-is : {v at : ℕ} → r ≡ Got at v → at ≡ startOf rs i
+  module _ (i : ℕ) {r : Read} (w : Reached s base k i r) (p : Product) (v : ℕ) (rs : List Rule) (o : Sound p v s rs) (e : base ≡ baseOf v (length rs)) (l : k ≤ length rs) where
+    pub reached-is : {u at : ℕ} → r ≡ Got at u → at ≡ startOf v rs i
     unfolding Reached
-    reached-is h = skip-is (rule p) s 7 k i (w p) rs [] (sound-row p s rs o) l h ∙ start-as p rs i
+    reached-is h = skip-is (rule p) s base k i (w p) rs [] (rw e (sound-row p v s rs o)) l h ∙ ap (λ (b : ℕ). startIn (rule p) b rs i) e ∙ start-as v rs i p
 
     pub reached-never : {B : Type 0} {c : Fault} {q : ℕ} → r ≡ No q c → B
     unfolding Reached
-    reached-never h = skip-never (rule p) s 7 k i (w p) rs [] (sound-row p s rs o) l h
+    reached-never h = skip-never (rule p) s base k i (w p) rs [] (rw e (sound-row p v s rs o)) l h
 
 -- ---- past the last rule, and within the deck
 
--- past the last rule there is only the end of the deck
-pub start-past : (p : Product) (s : List ℕ) (rs : List Rule) (k : ℕ) → Sound p s rs → length rs ≤ k → startOf rs k ≡ length s
-unfolding rules eachWrite
-start-past p s rs k o l =
-    let t : take k rs ≡ rs = take-all k rs l in
-    let i = written-is rs [] in
-    let n : rs ++ [] ≡ rs = append-nil rs in
-    start-is rs k ∙ rw t (omega (arith, ap length (o .is), ap length (rw n at i), length-append (before (length rs) rs) (rules (length rs) []), before-long (length rs) rs))
+module _ (p : Product) (v : ℕ) (s : List ℕ) (rs : List Rule) (k : ℕ) (o : Sound p v s rs) where
+  -- past the last rule there is only the end of the deck
+  pub start-past : length rs ≤ k → startOf v rs k ≡ length s
+  unfolding before
+  start-past l =
+      let t : take k rs ≡ rs = take-all k rs l in
+      sym (before-long v rs k) ∙ rw t (sym (ap length (o .is ∙ written-is v rs)))
 
--- a rule stands within its deck
-pub start-within : (p : Product) (s : List ℕ) (rs : List Rule) (k : ℕ) → Sound p s rs → (startOf rs k ≤ startOf rs (k + 1)) × (startOf rs (k + 1) ≤ length s)
-start-within p s rs k o =
-    elim (decLt k (length rs)) [
-      | yes l ↦ inside (here p s rs k o l)
-      | no l ↦ let a = start-past p s rs k o (omega arith) in let b = start-past p s rs (k + 1) o (omega arith) in (omega arith, omega arith)
-    ]
-  where
-    inside : Here p s rs k → (startOf rs k ≤ startOf rs (k + 1)) × (startOf rs (k + 1) ≤ length s)
-    inside h =
-        let B = before (length rs) (take k rs) in
-        let L = rules (k + 1) (h .later) in
-        let b = back k (h .r .elements) in
-        (omega (arith, h .ends), omega (arith, h .ends, h .starts, ap length (h .is), length-append B (front (h .r) ++ (b ++ L)), length-append (front (h .r)) (b ++ L), length-append b L))
+module _ (p : Product) (v : ℕ) (s : List ℕ) (rs : List Rule) (k : ℕ) (o : Sound p v s rs) where
+  -- a rule stands within its deck
+  pub start-within : (startOf v rs k ≤ startOf v rs (k + 1)) × (startOf v rs (k + 1) ≤ length s)
+  start-within =
+      elim (decLt k (length rs)) [
+        | yes l ↦ inside (here p v s rs k o l)
+        | no l ↦ let a = start-past p v s rs k o (omega arith) in let b = start-past p v s rs (k + 1) o (omega arith) in (omega arith, omega arith)
+      ]
+    where
+      inside : Here p v s rs k → (startOf v rs k ≤ startOf v rs (k + 1)) × (startOf v rs (k + 1) ≤ length s)
+      inside h =
+          let B = before v rs k in
+          let L = rules (k + 1) (h .later) in
+          let b = back k (h .r .elements) in
+          (omega (arith, h .ends), omega (arith, h .ends, h .starts, ap length (h .is), length-append B (front (h .r) ++ (b ++ L)), length-append (front (h .r)) (b ++ L), length-append b L))

@@ -1,7 +1,7 @@
 -- The whole read: what the first pass tells of the second, and that the promise leaves one outcome.
 use Prim.Native.Nat.{ℕ, _+_, _*_, _/_, _<_, _≤_}
 use native.Mathlib.Omega.{arith}
-use mathlib.Core.Path.{_≡_, refl, sym, ap, _∙_}
+use mathlib.Core.Path.{_≡_, refl, sym, ap, _∙_, subst}
 use mathlib.Core.Bool.{Bool, true, false}
 use mathlib.Core.List.{List, []}
 use lib.ListN.{length}
@@ -25,20 +25,22 @@ use Rattle.rule.specs.Rule.{Rule, rule, elementsIn}
 use Rattle.scan.specs.declared.Scan.{Scan}
 use Rattle.scan.specs.declared.Scan.the-variants as Scan
 use Rattle.scan.specs.Scan.{scanSays}
-use Rattle.deck.specs.Laws.Deck.{deck-row, read-writes-back, deck-small}
-use Rattle.deck.specs.Deck.{readAs, readBy, readDeck, scanned}
+use Rattle.deck.specs.Deck.{Deck, baseOf, readAs, readBy, readDeck, scanned}
+use Rattle.deck.specs.Laws.Deck.{read-writes-back, deck-small}
+use Rattle.deck.specs.Laws.Written.{deck-row, written-as, written-long}
 use Rattle.fill.specs.Rows.{ruleWidth, elementWidth, ruleRows, allElementRows}
 use Rattle.tables.specs.Tables.{inTables, tabled, rulesLeft, elementsLeft, readSays, rulesAfter, elementsAfter}
 use Rattle.buffer.specs.Laid.{put}
 use Rattle.fill.specs.Laws.Parts.{RulesFill, rule-rows-long, all-rows-long}
 
 -- what the first pass tells
-record Tells (p : Product) (s : List ℕ) (n m : ℕ) : Type 0 where
-  rs : List Rule
+record Tells (p : Product) (s : List ℕ) (b n m : ℕ) : Type 0 where
+  deck : Deck
   ends : ℕ
-  is : readAs p s ≡ got rs ends
-  rules : n ≡ length rs
-  elements : m ≡ total elementsIn rs
+  is : readAs p s ≡ got deck ends
+  base : b ≡ baseOf (deck .version) (length (deck .rules))
+  rules : n ≡ length (deck .rules)
+  elements : m ≡ total elementsIn (deck .rules)
 
 -- what a read promises: answer r, and the tables t and e become t₁ and e₁
 abbrev pub Promise : Edition → List ℕ → List ℕ → List ℕ → List ℕ → List ℕ → Outcome → Type 0
@@ -58,23 +60,24 @@ module _ (edition : ℕ) (s : List ℕ) {d : Edition} (f : d ≡ editionOf editi
     unfolding readDeck readBy
     scan-as = g ∙ ap (λ (w : Edition). scanned (readBy w s)) (sym f ∙ h)
 
-    -- n rules and m elements
-    found : {n m : ℕ} → c ≡ Scan.Is n m → Tells p s n m
-    found {n} {m} i = go (readAs p s) refl (sym i ∙ scan-as)
+    -- n rules, which start at b, and m elements
+    found : {v b n m : ℕ} → c ≡ Scan.Is v b n m → Tells p s b n m
+    found {v} {b} {n} {m} i = go (readAs p s) refl (sym i ∙ scan-as)
       where
-        go : (a : Answer (List Rule)) → readAs p s ≡ a → Scan.Is n m ≡ scanned a → Tells p s n m
-        go (got rs o) w z = record { rs = rs; ends = o; is = w; rules = (cc); elements = (cc) }
+        go : (a : Answer Deck) → readAs p s ≡ a → Scan.Is v b n m ≡ scanned a → Tells p s b n m
+        go (got k o) w z = record { deck = k; ends = o; is = w; base = (cc); rules = (cc); elements = (cc) }
         go (refused k q) w z = absurd (let x : _≡_ {A = ℕ} 0 1 = cc in omega arith)
 
-    read-small : {n m : ℕ} → c ≡ Scan.Is n m → Bytes s → (length s ≤ 60000) × (n ≤ 256)
+    read-small : {v b n m : ℕ} → c ≡ Scan.Is v b n m → Bytes s → (length s ≤ 60000) × ((b ≤ length s) × (n ≤ 256))
     read-small i bs =
         let a = found i in
-        let w = read-writes-back p s (a .rs) (a .ends) bs (a .is) in
-        (w .short, omega (arith, a .rules, deck-small p (a .rs) (w .fit)))
+        let k = a .deck in
+        let w = read-writes-back p s k (a .ends) bs (a .is) in
+        (w .short, (omega (arith, a .base, ap length (w .is ∙ written-as (k .version) (k .rules) p), written-long (k .version) (k .rules)), omega (arith, a .rules, deck-small p k (w .fit))))
 
     module _ (t e : List ℕ) where
       -- by what was read
-      answered-as : {a : Answer (List Rule)} {t₁ e₁ : List ℕ} {r : Outcome} → readAs p s ≡ a
+      answered-as : {a : Answer Deck} {t₁ e₁ : List ℕ} {r : Outcome} → readAs p s ≡ a
           → (r ≡ tabled (length t) (length e) a) × ((t₁ ≡ rulesLeft p (tabled (length t) (length e) a) a t) × (e₁ ≡ elementsLeft p (tabled (length t) (length e) a) a e))
           → Promise (editionOf edition) s t t₁ e e₁ r
       answered-as w o = rw (← f, h, w) o
@@ -83,49 +86,56 @@ module _ (edition : ℕ) (s : List ℕ) {d : Edition} (f : d ≡ editionOf editi
       pub read-refused : {k : Fault} {q : ℕ} {r : Outcome} → c ≡ Scan.No k q → r ≡ scanSays c → Promise (editionOf edition) s t t e e r
       read-refused {k} {q} i y = rw (y ∙ ap scanSays i) (go (readAs p s) refl (sym i ∙ scan-as))
         where
-          go : (a : Answer (List Rule)) → readAs p s ≡ a → Scan.No k q ≡ scanned a → Promise (editionOf edition) s t t e e (No k q)
-          go (got rs m) w z = absurd (let x : _≡_ {A = ℕ} 0 1 = cc in omega arith)
+          go : (a : Answer Deck) → readAs p s ≡ a → Scan.No k q ≡ scanned a → Promise (editionOf edition) s t t e e (No k q)
+          go (got y m) w z = absurd (let x : _≡_ {A = ℕ} 0 1 = cc in omega arith)
           go (refused k₁ q₁) w z =
               let ek : k ≡ k₁ = cc in
               let eq : q ≡ q₁ = cc in
               answered-as w (rw (ek, eq) (refl, (refl, refl)))
 
-      module _ {n m : ℕ} (i : c ≡ Scan.Is n m) where
-        a : Tells p s n m
+      module _ {v b n m : ℕ} (i : c ≡ Scan.Is v b n m) where
+        a : Tells p s b n m
         a = found i
 
         -- o is whether there is room
         module _ {o : Outcome} (z : o ≡ inTables n m (length t) (length e)) where
-          answer : o ≡ tabled (length t) (length e) (got (a .rs) (a .ends))
+          answer : o ≡ tabled (length t) (length e) (got (a .deck) (a .ends))
           answer = rw (← a .rules, ← a .elements) z
 
           -- where there is none
           pub read-full : ((v : ℕ) → o ≡ Done v → ⊥) → Promise (editionOf edition) s t t e e o
           read-full w = answered-as (a .is) (rw (← answer) (go o w))
             where
-              go : (x : Outcome) → ((v : ℕ) → x ≡ Done v → ⊥) → (x ≡ x) × ((t ≡ rulesLeft p x (got (a .rs) (a .ends)) t) × (e ≡ elementsLeft p x (got (a .rs) (a .ends)) e))
+              go : (x : Outcome) → ((v : ℕ) → x ≡ Done v → ⊥) → (x ≡ x) × ((t ≡ rulesLeft p x (got (a .deck) (a .ends)) t) × (e ≡ elementsLeft p x (got (a .deck) (a .ends)) e))
               go (Done v) none = absurd (none v refl)
               go (No k q) none = (refl, (refl, refl))
               go (Given k q) none = (refl, (refl, refl))
 
           -- where there is some
-          module _ {v : ℕ} (done : o ≡ Done v) where
+          module _ {u : ℕ} (done : o ≡ Done u) where
             fits : (ruleWidth * n ≤ length t) × (elementWidth * m ≤ length e)
             unfolding inTables pick
             fits = go (leb (ruleWidth * n) (length t)) (leb (elementWidth * m) (length e)) refl refl (sym done ∙ z)
               where
-                go : (x y : Bool) → leb (ruleWidth * n) (length t) ≡ x → leb (elementWidth * m) (length e) ≡ y → Done v ≡ pick x (pick y (Done n) (No Fault.Table 1)) (No Fault.Table 0) → (ruleWidth * n ≤ length t) × (elementWidth * m ≤ length e)
+                go : (x y : Bool) → leb (ruleWidth * n) (length t) ≡ x → leb (elementWidth * m) (length e) ≡ y → Done u ≡ pick x (pick y (Done n) (No Fault.Table 1)) (No Fault.Table 0) → (ruleWidth * n ≤ length t) × (elementWidth * m ≤ length e)
                 go true true f g w = (leb-true _ _ f, leb-true _ _ g)
                 go true false f g w = absurd (let x : _≡_ {A = ℕ} 0 1 = cc in omega arith)
                 go false y f g w = absurd (let x : _≡_ {A = ℕ} 0 1 = cc in omega arith)
 
             -- r is what the second pass answers
-            module _ (bs : Bytes s) {t₁ e₁ : List ℕ} {r : Read} (x : RulesFill p s n t t₁ e e₁ r) where
-              all : (r ≡ Read.Got (7 + length (eachWrite (rule p) 0 (a .rs))) n) × ((t₁ ≡ put t 0 (ruleRows p 0 7 (a .rs))) × (e₁ ≡ put e 0 (allElementRows p 0 7 (a .rs))))
+            module _ (bs : Bytes s) {t₁ e₁ : List ℕ} {r : Read} (x : RulesFill p s b n t t₁ e e₁ r) where
+              abbrev rs : List Rule
+              rs = a .deck .rules
+
+              abbrev base : ℕ
+              base = baseOf (a .deck .version) (length rs)
+
+              all : (r ≡ Read.Got (base + length (eachWrite (rule p) 0 rs)) n) × ((t₁ ≡ put t 0 (ruleRows p 0 base rs)) × (e₁ ≡ put e 0 (allElementRows p 0 base rs)))
               all =
-                  let w = read-writes-back p s (a .rs) (a .ends) bs (a .is) in
+                  let w = read-writes-back p s (a .deck) (a .ends) bs (a .is) in
                   let few = read-small i bs in
-                  x (few .0) (few .1) (a .rs) [] (deck-row p s (a .rs) (w .fit) (w .is)) (sym (a .rules)) (omega (arith, fits .0, rule-rows-long p 7 (a .rs), a .rules)) (omega (arith, fits .1, all-rows-long p 7 (a .rs), a .elements))
+                  let y = subst (λ (z : ℕ). RulesFill p s z n t t₁ e e₁ r) (a .base) x in
+                  y (few .0) (omega (arith, few .1 .0, a .base)) (few .1 .1) rs [] (deck-row p s (a .deck) (w .fit) (w .is)) (sym (a .rules)) (omega (arith, fits .0, rule-rows-long p base rs, a .rules)) (omega (arith, fits .1, all-rows-long p base rs, a .elements))
 
               -- it refuses nothing
               pub read-unlike : {k : Fault} {q : ℕ} {y : Outcome} → r ≡ Read.No q k → Promise (editionOf edition) s t t₁ e e₁ y

@@ -36,6 +36,7 @@ use Rattle.buffer.specs.Laid.{putIn}
 use Rattle.buffer.specs.Laws.Laid.{put-both}
 use Rattle.buffer.specs.Laws.Holds.{Holds, holds-put, holds-behind}
 use Rattle.locate.specs.Laws.Located.{lastOf}
+use Rattle.spot.specs.declared.Site.{Site}
 use Rattle.steps.specs.Laws.Steps.{Here, nameEnd}
 use Rattle.given.specs.Given.{isText, textOf}
 use Rattle.plan.specs.Edit.{Plan, become, addWord, edited, holding, atList, unlessFull, ifText}
@@ -123,27 +124,27 @@ module _ (k : ℕ) (els : List Element) (e : ℕ) {c t : ℕ} (o : EndsInList k 
 -- whatever sound deck is in the first n bytes, its last rule having a name that ends at e and for last element a list of c words, whose number stands at t: the word is added
 unfoldable pub Lengthens : ℕ → ℕ → ℕ → ℕ → ℕ → List ℕ → List ℕ → Outcome → List ℕ → Type 0
 Lengthens n m e t c s d r d′ =
-    (p : Product) (rs : List Rule) (k : ℕ) (h : Here p (take n d) rs k) (o : EndsInList k e (h .r .elements) c t) → h .later ≡ [] → n ≤ length d → m ≡ length rs
-    → e ≡ enabledAt (startOf rs k) (h .r) → textBytes s ≡ string .write (textOf s)
-    → Does n (become (take k rs ++ (holding (take (length (h .r .elements) - 1) (h .r .elements) ++ ((o .id, words (o .ws ++ (textOf s ∷ []))) ∷ [])) (h .r) ∷ []))) d r d′
+    (p : Product) (v : ℕ) (rs : List Rule) (k : ℕ) (h : Here p v (take n d) rs k) (o : EndsInList k e (h .r .elements) c t) → h .later ≡ [] → n ≤ length d → m ≡ length rs
+    → e ≡ enabledAt (startOf v rs k) (h .r) → textBytes s ≡ string .write (textOf s)
+    → Does v n (become (take k rs ++ (holding (take (length (h .r .elements) - 1) (h .r .elements) ++ ((o .id, words (o .ws ++ (textOf s ∷ []))) ∷ [])) (h .r) ∷ []))) d r d′
 
 module _ (n m e t c : ℕ) (s d : List ℕ) where
-  module _ {p : Product} {rs : List Rule} {k : ℕ} (h : Here p (take n d) rs k) (o : EndsInList k e (h .r .elements) c t) (z : h .later ≡ []) (w : n ≤ length d) (g : e ≡ enabledAt (startOf rs k) (h .r)) (l : 0 < length (h .r .elements)) where
+  module _ {p : Product} {v : ℕ} {rs : List Rule} {k : ℕ} (h : Here p v (take n d) rs k) (o : EndsInList k e (h .r .elements) c t) (z : h .later ≡ []) (w : n ≤ length d) (g : e ≡ enabledAt (startOf v rs k) (h .r)) (l : 0 < length (h .r .elements)) where
     -- its bytes, Data Size and the number of words being S and C
     abbrev bytesWith : ℕ → ℕ → List ℕ
-    bytesWith S C = before (length rs) (take k rs) ++ (front (h .r) ++ (spelt 4 S ++ (spelt 2 (length (h .r .elements)) ++ (headBytes k ++ (upTo k (h .r .elements) e o l ++ (spelt 4 C ++ tail k (h .r .elements) e o l s))))))
+    bytesWith S C = before v rs k ++ (front (h .r) ++ (spelt 4 S ++ (spelt 2 (length (h .r .elements)) ++ (headBytes k ++ (upTo k (h .r .elements) e o l ++ (spelt 4 C ++ tail k (h .r .elements) e o l s))))))
 
-    longer-written : (b : textBytes s ≡ string .write (textOf s)) → written (take k rs ++ (holding (longer k (h .r .elements) e o l s) (h .r) ∷ [])) ≡ bytesWith (n + 4 + length (textBytes s) - (e + 24)) (c + 1)
+    longer-written : (b : textBytes s ≡ string .write (textOf s)) → written v (take k rs ++ (holding (longer k (h .r .elements) e o l s) (h .r) ∷ [])) ≡ bytesWith (n + 4 + length (textBytes s) - (e + 24)) (c + 1)
     unfolding front kept
     longer-written b =
         let f′ : drop k rs ≡ h .r ∷ [] = h .from ∙ rw z in
-        written-here rs [] k (h .r) (holding (longer k (h .r .elements) e o l s) (h .r)) f′ (among h)
+        written-here v rs [] k (h .r) (holding (longer k (h .r .elements) e o l s) (h .r)) f′ (among h)
         ∙ rw (rules-none, append-nil, back-longer k (h .r .elements) e o l n s b (size-ends n d h z w g))
 
     bytes-long : (S C : ℕ) → length (bytesWith S C) ≡ n + 4 + length (textBytes s)
     unfolding sizeOf
     bytes-long S C =
-        let B = before (length rs) (take k rs) in
+        let B = before v rs k in
         let F = front (h .r) in
         let els = h .r .elements in
         let I = upTo k els e o l ++ (spelt 4 C ++ tail k els e o l s) in
@@ -153,7 +154,7 @@ module _ (n m e t c : ℕ) (s d : List ℕ) where
     unfolding back
     longer-holds {y₁} {y₂} {y₃} {y₄} S C m e₁ e₂ e₃ e₄ =
         let els = h .r .elements in
-        let P = before (length rs) (take k rs) ++ front (h .r) in
+        let P = before v rs k ++ front (h .r) in
         let E = wordBytes s in
         let lE = word-long s in
         let e₂′ : y₂ ≡ putIn d n E = word-put d n s e₁ e₂ m in
@@ -168,73 +169,73 @@ module _ (n m e t c : ℕ) (s d : List ℕ) where
         let q : (P ++ (spelt 4 S ++ M)) ++ (spelt 4 C ++ (W ++ E)) ≡ bytesWith S C = simp append-assoc in
         rw q at h₃
 
-  some : {p : Product} {rs : List Rule} {k : ℕ} (h : Here p (take n d) rs k) → 0 < length (h .r .elements)
-  some {p} {rs} {k} h = omega (arith, rule-fits p k (h .r) (h .fits) .0)
+  some : {p : Product} {v : ℕ} {rs : List Rule} {k : ℕ} (h : Here p v (take n d) rs k) → 0 < length (h .r .elements)
+  some {p} {v} {rs} {k} h = omega (arith, rule-fits p k (h .r) (h .fits) .0)
 
   -- never, of a sound deck
   pub lengthen-short : (size : ℕ) (r : Outcome) (d′ : List ℕ) → n + 4 + size < e + 24 → Lengthens n m e t c s d r d′
   unfolding Lengthens
-  lengthen-short size r d′ u p rs k h o z w m g b = absurd (omega (arith, size-ends n d h z w g))
+  lengthen-short size r d′ u p v rs k h o z w m g b = absurd (omega (arith, size-ends n d h z w g))
 
   -- size is what a String of the word takes; r is what 18, 19 and 20 were judged as
   module _ {size : ℕ} {r : Outcome} where
-    pub lengthen-out : isText s ≡ true → size ≡ textSize s → r ≡ roomFor m (n + 4 + size) (length d) → ((v : ℕ) → r ≡ Outcome.Done v → ⊥) → Lengthens n m e t c s d r d
+    pub lengthen-out : isText s ≡ true → size ≡ textSize s → r ≡ roomFor m (n + 4 + size) (length d) → ((u : ℕ) → r ≡ Outcome.Done u → ⊥) → Lengthens n m e t c s d r d
     unfolding Lengthens
-    lengthen-out it es j i p rs k h o z w f g b =
+    lengthen-out it es j i p v rs k h o z w f g b =
         let l = bytes-long h o z w g (some h) (n + 4 + length (textBytes s) - (e + 24)) (c + 1) in
         let u : n + 4 + size ≡ n + 4 + length (textBytes s) = ap (λ (k : ℕ). n + 4 + k) (es ∙ text-size s it) in
-        made-out n d refl j i (f ∙ sym (as-many h _ z)) (u ∙ sym (ap length (longer-written h o z w g (some h) b) ∙ l))
+        made-out v n d refl j i (f ∙ sym (as-many h _ z)) (u ∙ sym (ap length (longer-written h o z w g (some h) b) ∙ l))
 
-    pub lengthen-done : {y₁ y₂ y₃ y₄ : List ℕ} {v : ℕ} → isText s ≡ true → size ≡ textSize s → r ≡ roomFor m (n + 4 + size) (length d) → r ≡ Outcome.Done v → y₁ ≡ putIn d n (spelt 4 0) → y₂ ≡ putIn y₁ (n + 4) (textBytes s) → y₃ ≡ putIn y₂ (e + 20) (spelt 4 (n + 4 + size - (e + 24))) → y₄ ≡ putIn y₃ t (spelt 4 (c + 1))
+    pub lengthen-done : {y₁ y₂ y₃ y₄ : List ℕ} {u : ℕ} → isText s ≡ true → size ≡ textSize s → r ≡ roomFor m (n + 4 + size) (length d) → r ≡ Outcome.Done u → y₁ ≡ putIn d n (spelt 4 0) → y₂ ≡ putIn y₁ (n + 4) (textBytes s) → y₃ ≡ putIn y₂ (e + 20) (spelt 4 (n + 4 + size - (e + 24))) → y₄ ≡ putIn y₃ t (spelt 4 (c + 1))
         → Lengthens n m e t c s d r y₄
     unfolding Lengthens
-    lengthen-done {y₃ = y₃} it es j i e₁ e₂ e₃ e₄ p rs k h o z w f g b =
+    lengthen-done {y₃ = y₃} it es j i e₁ e₂ e₃ e₄ p v rs k h o z w f g b =
         let l = bytes-long h o z w g (some h) (n + 4 + length (textBytes s) - (e + 24)) (c + 1) in
         let ts = es ∙ text-size s it in
         let u = roomy m (n + 4 + size) (length d) j i .inside in
-        made-in n d j i (longer-holds h o z w g (some h) (n + 4 + length (textBytes s) - (e + 24)) (c + 1) (omega arith) e₁ e₂ (rw ts at e₃) e₄) refl (sym (longer-written h o z w g (some h) b))
+        made-in v n d j i (longer-holds h o z w g (some h) (n + 4 + length (textBytes s) - (e + 24)) (c + 1) (omega arith) e₁ e₂ (rw ts at e₃) e₄) refl (sym (longer-written h o z w g (some h) b))
         (omega arith) (omega (arith, word-long s)) (f ∙ sym (as-many h _ z))
 
 -- ---- what is judged before
 
-at-words : {k e : ℕ} {els : List Element} {c t : ℕ} (o : EndsInList k e els c t) (g : ℕ → List Text → Plan) → atList (drop (length els - 1) els) g ≡ g (o .id) (o .ws)
+at-words : {k e : ℕ} {els : List Element} {c t : ℕ} (o : EndsInList k e els c t) (g : ℕ → List Text → Plan (List Rule)) → atList (drop (length els - 1) els) g ≡ g (o .id) (o .ws)
 unfolding atList
 at-words o g = rw (o .is)
 
 -- the last rule with a word more in the list that is its last element
-abbrev withWord : List ℕ → List Rule → ℕ → Rule → Plan
+abbrev withWord : List ℕ → List Rule → ℕ → Rule → Plan (List Rule)
 withWord s rs k r = atList (drop (length (r .elements) - 1) (r .elements)) λ id ws. unlessFull (length ws)
     (ifText s (become (take k rs ++ (holding (take (length (r .elements) - 1) (r .elements) ++ ((id, words (ws ++ (textOf s ∷ []))) ∷ [])) r ∷ []))))
 
-module _ (p : Product) (n m a : ℕ) (s d : List ℕ) where
-  pub word-none : m ≡ 0 → MakesAs p lastOf n m a (addWord s) d (Outcome.No Fault.Last 0) d
+module _ (p : Product) (f : Site) (s d : List ℕ) where
+  pub word-none : f .rules ≡ 0 → MakesAs p lastOf f (addWord s) d (Outcome.No Fault.Last 0) d
   unfolding edited
-  word-none e = on-none p n m a d (addWord s) (withWord s) (λ rs. refl) e
+  word-none e = on-none p f d (addWord s) (withWord s) (λ rs. refl) e
 
   -- y is what was told of the list
-  module _ {e : ℕ} {y : Read} (l : m ≡ 0 → ⊥) (g : e ≡ nameEnd d a) (li : Where (rule p (m - 1)) d a (lastList p (m - 1) a) y) where
-    last-told : {rs : List Rule} (h : Here p (take n d) rs (m - 1)) → a ≡ startOf rs (m - 1) → y ≡ lastList p (m - 1) (startOf rs (m - 1)) (h .r)
+  module _ {e : ℕ} {y : Read} (l : f .rules ≡ 0 → ⊥) (g : e ≡ nameEnd d (f .start)) (li : Where (rule p (f .rules - 1)) d (f .start) (lastList p (f .rules - 1) (f .start)) y) where
+    last-told : {v : ℕ} {rs : List Rule} (h : Here p v (take (f .bytes) d) rs (f .rules - 1)) → f .start ≡ startOf v rs (f .rules - 1) → y ≡ lastList p (f .rules - 1) (startOf v rs (f .rules - 1)) (h .r)
     unfolding Where
-    last-told h e = (rw e at li) (h .r) (here-in n d h)
+    last-told h i = (rw i at li) (h .r) (here-in (f .bytes) d h)
 
-    pub word-no-list : {r : Outcome} {c : Fault} {q : ℕ} → y ≡ Read.No q c → r ≡ endSays y → MakesAs p lastOf n m a (addWord s) d r d
+    pub word-no-list : {r : Outcome} {c : Fault} {q : ℕ} → y ≡ Read.No q c → r ≡ endSays y → MakesAs p lastOf f (addWord s) d r d
     unfolding edited
-    word-no-list k er = on-last p n m a d (addWord s) (withWord s) (λ rs. refl) _ _ l g (λ rs h z w v e′ a′. let u = made-no n d (list-none _ _ _ (sym (last-told h a′) ∙ k) _) in (er ∙ ap endSays k ∙ u .0, u .1))
+    word-no-list k er = on-last p f d (addWord s) (withWord s) (λ rs. refl) _ _ l g (λ v rs h z w e′ a′. let x = made-no v (f .bytes) d (list-none _ _ _ (sym (last-told h a′) ∙ k) _) in (er ∙ ap endSays k ∙ x .0, x .1))
 
     module _ {c t : ℕ} (k : y ≡ Read.Got t c) where
-      is-listed : {rs : List Rule} (h : Here p (take n d) rs (m - 1)) → e ≡ enabledAt (startOf rs (m - 1)) (h .r) → a ≡ startOf rs (m - 1) → EndsInList (m - 1) e (h .r .elements) c t
-      is-listed {rs} h e′ a′ = ends-in-list p d (startOf rs (m - 1)) (m - 1) e (h .r) (here-in n d h) e′ (sym (last-told h a′) ∙ k)
+      is-listed : {v : ℕ} {rs : List Rule} (h : Here p v (take (f .bytes) d) rs (f .rules - 1)) → e ≡ enabledAt (startOf v rs (f .rules - 1)) (h .r) → f .start ≡ startOf v rs (f .rules - 1) → EndsInList (f .rules - 1) e (h .r .elements) c t
+      is-listed {v} {rs} h e′ a′ = ends-in-list p d (startOf v rs (f .rules - 1)) (f .rules - 1) e (h .r) (here-in (f .bytes) d h) e′ (sym (last-told h a′) ∙ k)
 
-      pub word-full : 64 ≤ c → MakesAs p lastOf n m a (addWord s) d (Outcome.No Fault.Full 0) d
+      pub word-full : 64 ≤ c → MakesAs p lastOf f (addWord s) d (Outcome.No Fault.Full 0) d
       unfolding edited
-      word-full f = on-last p n m a d (addWord s) (withWord s) (λ rs. refl) _ _ l g (λ rs h z w v e′ a′. let o = is-listed h e′ a′ in made-no n d (at-words o _ ∙ full _ _ (rw (o .many) at f)))
+      word-full u = on-last p f d (addWord s) (withWord s) (λ rs. refl) _ _ l g (λ v rs h z w e′ a′. let o = is-listed h e′ a′ in made-no v (f .bytes) d (at-words o _ ∙ full _ _ (rw (o .many) at u)))
 
-      pub word-text : c < 64 → isText s ≡ false → MakesAs p lastOf n m a (addWord s) d (Outcome.No Fault.Text 0) d
+      pub word-text : c < 64 → isText s ≡ false → MakesAs p lastOf f (addWord s) d (Outcome.No Fault.Text 0) d
       unfolding edited
-      word-text f b = on-last p n m a d (addWord s) (withWord s) (λ rs. refl) _ _ l g (λ rs h z w v e′ a′. let o = is-listed h e′ a′ in made-no n d (at-words o _ ∙ not-full _ _ (rw (o .many) at f) ∙ no-text s _ b))
+      word-text u b = on-last p f d (addWord s) (withWord s) (λ rs. refl) _ _ l g (λ v rs h z w e′ a′. let o = is-listed h e′ a′ in made-no v (f .bytes) d (at-words o _ ∙ not-full _ _ (rw (o .many) at u) ∙ no-text s _ b))
 
-      pub word-done : (r : Outcome) (d′ : List ℕ) → c < 64 → Bytes s → isText s ≡ true → Lengthens n m e t c s d r d′ → MakesAs p lastOf n m a (addWord s) d r d′
+      pub word-done : (r : Outcome) (d′ : List ℕ) → c < 64 → Bytes s → isText s ≡ true → Lengthens (f .bytes) (f .rules) e t c s d r d′ → MakesAs p lastOf f (addWord s) d r d′
       unfolding Lengthens edited
-      word-done r d′ f bs b x = on-last p n m a d (addWord s) (withWord s) (λ rs. refl) r d′ l g (λ rs h z w v e′ a′.
+      word-done r d′ u bs b x = on-last p f d (addWord s) (withWord s) (λ rs. refl) r d′ l g (λ v rs h z w e′ a′.
           let o = is-listed h e′ a′ in
-          rw (at-words o _, not-full _ _ (rw (o .many) at f), if-text s _ b) (x p rs (m - 1) h o z w v e′ (text-is s bs b)))
+          rw (at-words o _, not-full _ _ (rw (o .many) at u), if-text s _ b) (x p v rs (f .rules - 1) h o z (w .within) (w .many) e′ (text-is s bs b)))
