@@ -12,11 +12,11 @@ ghost use Rattle.plan.specs.Laws.Finish.{Finishes};
 pub fn find(edition: u64, buf: &[u8], n: usize, k: u64) -> Spot
     ensures { λ r. ⌜ r ≡ found (λ rs. k) edition n (now (buf .entry)) ⌝ }
 {
-    let e = kind::edition_of(edition);
-    let Edition::Of(_) = e else {
-        return Spot::No(Fault::Edition, 0);
-    };
     if buf.len() < n {
+        let e = kind::edition_of(edition);
+        let Edition::Of(_) = e else {
+            return Spot::No(Fault::Edition, 0);
+        };
         return Spot::No(Fault::Stated, 0);
     }
     let deck = &buf[..n];
@@ -27,11 +27,11 @@ pub fn find(edition: u64, buf: &[u8], n: usize, k: u64) -> Spot
 pub fn find_last(edition: u64, buf: &[u8], n: usize) -> Spot
     ensures { λ r. ⌜ r ≡ found lastOf edition n (now (buf .entry)) ⌝ }
 {
-    let e = kind::edition_of(edition);
-    let Edition::Of(_) = e else {
-        return Spot::No(Fault::Edition, 0);
-    };
     if buf.len() < n {
+        let e = kind::edition_of(edition);
+        let Edition::Of(_) = e else {
+            return Spot::No(Fault::Edition, 0);
+        };
         return Spot::No(Fault::Stated, 0);
     }
     let deck = &buf[..n];

@@ -96,9 +96,14 @@ module _ (k : List Rule → ℕ) (edition n : ℕ) (d : List ℕ) where
     unfolding found pick
     found-beyond e h l = rw (← e, h, lt-leb n (length d) l)
 
-    pub found-is : {c : Spot} → o ≡ editionOf edition → o ≡ Edition.Of p → n ≤ length d → c ≡ located k (readDeck edition (take n d)) → c ≡ found k edition n d
-    unfolding found pick readDeck readBy
-    found-is e h l f = rw (← e, h) (rw (← e, h) at f ∙ rw (le-leb n (length d) l))
+  -- a deck that is there is judged by its edition as it is read
+  pub found-is : {c : Spot} → n ≤ length d → c ≡ located k (readDeck edition (take n d)) → c ≡ found k edition n d
+  unfolding found pick readDeck readBy
+  found-is {c} l f = f ∙ go (editionOf edition)
+    where
+      go : (o : Edition) → located k (readBy o (take n d)) ≡ foundBy o k n d
+      go (Edition.Of p) = rw (le-leb n (length d) l)
+      go Edition.Unknown = refl
 
   -- what was found, by the deck that was read
   pub record Ground (f : Site) : Type 0 where
