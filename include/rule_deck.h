@@ -16,7 +16,7 @@ extern "C" {
 
 /* The version of this header. Header and archive belong together where rule_deck_version() answers the same. */
 #define RULE_DECK_MAJOR 1
-#define RULE_DECK_MINOR 2
+#define RULE_DECK_MINOR 3
 #define RULE_DECK_VERSION (256 * RULE_DECK_MAJOR + RULE_DECK_MINOR)
 
 /* The editions. */
@@ -34,8 +34,9 @@ extern "C" {
  * Numbers are little-endian. Each number, constant, mark or String below is a field, with a place of its own:
  *
  *   a deck      3 bytes   mark, "RDK"
- *               2         version, 1
+ *               2         version, 1 or 2
  *               2         number of rules, 0 to 256
+ *               4 each    in version 2 the offsets, one for each rule: the place in the deck where it starts
  *                         the rules, back to back, to the last byte
  *
  *   a rule      4 bytes   signature with Unknown1, any number
@@ -60,10 +61,14 @@ extern "C" {
  *
  * A unit is 2 bytes, little-endian UTF-16, and may have any value: zero and lone surrogates, too. Up to 254 units may
  * have either form, and keep it: a String is written as it was read. Only a name or a word that a call is given gets
- * the shortest form, the long one for 255 units alone. The elements of a rule may come in any order. */
+ * the shortest form, the long one for 255 units alone. The elements of a rule may come in any order.
+ *
+ * Every call but the two conversions takes decks of both versions. An edit keeps the version, and puts the offsets
+ * afresh. In a sound deck of version 2 the 4 bytes at RULE_DECK_OFFSETS + 4 * k say where rule k starts. */
 
-#define RULE_DECK_LEAST_BYTES 7       /* of a deck: an empty one */
-#define RULE_DECK_MOST_BYTES 60000    /* of a deck */
+#define RULE_DECK_LEAST_BYTES 7       /* of a deck: an empty one, of either version */
+#define RULE_DECK_MOST_BYTES 60000    /* of a deck, its offsets among them */
+#define RULE_DECK_OFFSETS 7           /* the place of the first offset */
 #define RULE_DECK_MOST_RULES 256      /* of a deck */
 #define RULE_DECK_MOST_ELEMENTS 5999  /* of a deck: each takes at least 10 bytes of it */
 #define RULE_DECK_MOST_RULE_ELEMENTS 64
@@ -187,16 +192,18 @@ enum rule_deck_code {
     RULE_DECK_FAULT_ROOM = 20,
     RULE_DECK_FAULT_FULL = 21,
     RULE_DECK_FAULT_LAST = 22,
-    RULE_DECK_GIVEN = 32 /* plus 2 to 13: that fault in a second deck or a given element, its place counted there */
+    RULE_DECK_FAULT_OFFSET = 29, /* the offset */
+    RULE_DECK_GIVEN = 32 /* plus 2 to 13, or 29: that fault in a second deck or a given element, its place there */
 };
 
 /* At each call below, the codes that it may give, in the order in which they are judged; the first that holds is
  * answered. For short:
  *
  *   DECK    1; then 2; then 3 to 13 from left to right, each field as soon as it is read; of a String its length, 7,
- *           its units; 12 after the rule's last element, 13 after the last rule.
- *   EDIT    1; then 15; then 2 to 13 as in DECK.
- *   SECOND  34 to 45: 2 to 13 as in DECK, of the second deck.
+ *           its units; 12 after the rule's last element, 13 after the last rule; in version 2 also 29, before the first
+ *           field of the offset's rule.
+ *   EDIT    1; then 15; then 2 to 13 and 29 as in DECK.
+ *   SECOND  34 to 45 and 61: 2 to 13 and 29 as in DECK, of the second deck.
  *   GIVEN   41, 42; then 35, 38, 39, 40 and 43 in the data from left to right; then 45. */
 
 /* What a code says, without its place. */
@@ -233,6 +240,7 @@ static inline const char *rule_deck_message(unsigned code) {
         RULE_DECK_SAYS(ROOM, "the result is longer than the buffer")
         RULE_DECK_SAYS(FULL, "the rule has 64 elements, or the list 64 words")
         RULE_DECK_SAYS(LAST, "there is no rule, or the last element is no word list")
+        RULE_DECK_SAYS_GIVEN(OFFSET, "an offset is not the start of its rule")
     default:
         return "no code of this version";
     }
@@ -319,9 +327,9 @@ enum rule_deck_value_column {
  * A slice is a pointer and, behind it, the true number of its bytes (of a table: of its numbers). NULL with length 0 is
  * an empty slice. A table is aligned as its type is; bytes may stand anywhere. A bool is 0 or 1.
  *
- * What is lent to be written must not overlap anything else that is lent to the same call. So a name, a word, data or a
- * second deck must not lie in the buffer: the call moves the buffer's bytes while it still reads what is given. To
- * make a copy of a rule, or to use a name that is in the buffer, copy it out first.
+ * What is lent to be written must not overlap anything else that is lent to the same call. So a name, a word, data, a
+ * second deck or a deck to convert must not lie in the buffer: the call moves or writes the buffer's bytes while it
+ * still reads what is given. To make a copy of a rule, or to use a name that is in the buffer, copy it out first.
  *
  * Editions, stated lengths, and numbers of rules, elements and words are any 64-bit numbers: those that do not fit are
  * refused. The lengths of slices are not: they are believed.
@@ -410,7 +418,7 @@ uint64_t rule_deck_moment(uint64_t bits, uint32_t *moment, size_t moment_len);
  *
  * What is given must not lie in the buffer, whose bytes are moved while it is read (what is lent, above). */
 
-/* Starts an empty deck in the first RULE_DECK_LEAST_BYTES bytes. Done: their number.
+/* Starts an empty deck of version 1 in the first RULE_DECK_LEAST_BYTES bytes. Done: their number.
  * Codes: 20. */
 uint64_t rule_deck_start(uint8_t *buf, size_t buf_len);
 
@@ -428,8 +436,8 @@ uint64_t rule_deck_rename(uint64_t edition, uint8_t *buf, size_t buf_len, uint64
  * Codes: EDIT, 16 at 0. */
 uint64_t rule_deck_remove(uint64_t edition, uint8_t *buf, size_t buf_len, uint64_t stated, uint64_t k);
 
-/* Inserts at place k, 0 to the number of rules, a copy of rule j of a second deck, which is read in the same edition
- * and must not lie in the buffer. The copy's name and words keep their forms.
+/* Inserts at place k, 0 to the number of rules, a copy of rule j of a second deck, which is read in the same edition,
+ * may have either version and must not lie in the buffer. The copy's name and words keep their forms.
  * Codes: EDIT, SECOND, 16 at 0, 16 at 1, 18, 19, 20. */
 uint64_t rule_deck_insert(uint64_t edition, uint8_t *buf, size_t buf_len, uint64_t stated, uint64_t k,
                           const uint8_t *second, size_t second_len, uint64_t j);
@@ -453,6 +461,19 @@ uint64_t rule_deck_add_element(uint64_t edition, uint8_t *buf, size_t buf_len, u
  * Codes: EDIT, 22, 21, 17, 19, 20. */
 uint64_t rule_deck_add_word(uint64_t edition, uint8_t *buf, size_t buf_len, uint64_t stated, const uint8_t *word,
                             size_t word_len);
+
+/* ---- calls: the other version
+ *
+ * The deck of the same rules in the other version, written at the start of the buffer, and no byte behind it. There and
+ * back gives the same bytes. Done: the new deck's length. The deck that is given must not lie in the buffer. */
+
+/* From version 1 to version 2: 4 bytes more for each rule. Any other version than 1 is 5, as soon as it is read.
+ * Codes: DECK, 19, 20. */
+uint64_t rule_deck_to_2(uint64_t edition, const uint8_t *deck, size_t deck_len, uint8_t *buf, size_t buf_len);
+
+/* From version 2 to version 1: 4 bytes less for each rule. Any other version than 2 is 5, as soon as it is read.
+ * Codes: DECK, 20. */
+uint64_t rule_deck_to_1(uint64_t edition, const uint8_t *deck, size_t deck_len, uint8_t *buf, size_t buf_len);
 
 #ifdef __cplusplus
 }

@@ -1,4 +1,5 @@
-/* Builds a deck, edits it and prints it: two rules, a list of words, the first rule removed, the other one duplicated. */
+/* Builds a deck, edits it and prints it: two rules, a list of words, the first rule removed, the other one duplicated;
+ * then to version 2, where a rule is found by its offset, and back. */
 #include <string.h>
 
 #include "answer.h"
@@ -62,6 +63,20 @@ static void print(void) {
     for (uint64_t k = 0; k < n; k++) print_rule(k, rules + RULE_DECK_RULE_WIDTH * k);
 }
 
+/* Where rule k of a deck of version 2 starts, without a walk. */
+static uint32_t start_of(const uint8_t *indexed, uint64_t k) {
+    const uint8_t *offset = indexed + RULE_DECK_OFFSETS + 4 * k;
+    return offset[0] | offset[1] << 8 | offset[2] << 16 | (uint32_t)offset[3] << 24;
+}
+
+static void convert(void) {
+    static uint8_t indexed[sizeof deck], again[sizeof deck];
+    uint64_t n = done("to 2", rule_deck_to_2(EDITION, deck, length, indexed, sizeof indexed));
+    printf("to 2 %" PRIu64 ", rule 1 starts at %u\n", n, start_of(indexed, 1));
+    n = done("to 1", rule_deck_to_1(EDITION, indexed, n, again, sizeof again));
+    printf("to 1 %" PRIu64 ", %s\n", n, n == length && memcmp(deck, again, n) == 0 ? "the same bytes" : "other bytes");
+}
+
 int main(void) {
     static const uint8_t c[] = {'C', 0};
     edited("start", rule_deck_start(deck, sizeof deck));
@@ -73,5 +88,6 @@ int main(void) {
     duplicate(0);
     edited("rename", rule_deck_rename(EDITION, deck, sizeof deck, length, 1, c, sizeof c));
     print();
+    convert();
     return 0;
 }

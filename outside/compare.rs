@@ -6,6 +6,8 @@
 //! identifiers that differ from one of the 35 in up to three bytes, `reach=4` all of 32 bits.
 //! `edits=N`, `decks=N` and `results=N` say how many.
 mod baseline;
+#[path = "compare/conversions.rs"]
+mod conversions;
 #[path = "compare/damages.rs"]
 mod damages;
 #[path = "compare/decks.rs"]

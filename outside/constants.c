@@ -1,5 +1,5 @@
 /* The header's constants against the archive: its version, the codes' messages, the widths of rows, a String's forms,
- * the place of a rule's state, the limits. */
+ * the place of a rule's state and of an offset, the limits. */
 #include <string.h>
 
 #include "answer.h"
@@ -40,8 +40,9 @@ static void versions(void) {
 }
 
 static bool is_code(unsigned code) {
-    return code <= RULE_DECK_FAULT_LAST ||
-           (RULE_DECK_GIVEN + RULE_DECK_FAULT_LONG <= code && code <= RULE_DECK_GIVEN + RULE_DECK_FAULT_OVER);
+    return code <= RULE_DECK_FAULT_LAST || code == RULE_DECK_FAULT_OFFSET ||
+           (RULE_DECK_GIVEN + RULE_DECK_FAULT_LONG <= code && code <= RULE_DECK_GIVEN + RULE_DECK_FAULT_OVER) ||
+           code == RULE_DECK_GIVEN + RULE_DECK_FAULT_OFFSET;
 }
 
 /* Each code has a message, and no two have the same; other numbers have one that says that they are none. */
@@ -118,6 +119,24 @@ static void states(void) {
     }
 }
 
+/* The first rule of a deck of version 2 starts where its offset says; else it is refused at the offset. */
+static void offsets(void) {
+    static uint8_t other[sizeof deck];
+    build();
+    uint64_t n = done("to 2", rule_deck_to_2(EDITION, deck, length, other, sizeof other));
+    uint8_t *offset = other + RULE_DECK_OFFSETS;
+    uint32_t rule[RULE_DECK_RULE_WIDTH], list[RULE_DECK_ELEMENT_WIDTH];
+    done("read", rule_deck_read(EDITION, other, n, rule, RULE_DECK_RULE_WIDTH, list, RULE_DECK_ELEMENT_WIDTH));
+    if (n != length + 4 || rule[RULE_DECK_RULE_START] != offset[0]) {
+        printf("of %" PRIu64 " bytes, the first offset is %u\n", n, offset[0]);
+        exit(1);
+    }
+    (*offset)++;
+    EXPECT(rule_deck_check(EDITION, other, n), RULE_DECK_FAULT_OFFSET, RULE_DECK_OFFSETS);
+    EXPECT(rule_deck_insert(EDITION, deck, sizeof deck, length, 0, other, n, 0),
+           RULE_DECK_GIVEN + RULE_DECK_FAULT_OFFSET, RULE_DECK_OFFSETS);
+}
+
 /* Repeats an edit until it is refused: there were that many before. */
 static void up_to(uint64_t had, uint64_t most, uint64_t (*edit)(void), unsigned code) {
     for (; had < most; had++) length = done("a limit", edit());
@@ -157,6 +176,7 @@ int main(void) {
     widths();
     states();
     forms();
+    offsets();
     counts();
     bytes();
     return 0;

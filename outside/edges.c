@@ -32,6 +32,8 @@ static void no_deck(void) {
     EXPECT(rule_deck_word(EDITION, NULL, 0, 0, 0, 0), RULE_DECK_FAULT_CUT, 0);
     EXPECT(rule_deck_word_part(EDITION, NULL, 0, 0, 0, 0, numbers, 8), RULE_DECK_FAULT_CUT, 0);
     EXPECT(rule_deck_fields(EDITION, NULL, 0, 0, numbers, 8), RULE_DECK_FAULT_CUT, 0);
+    EXPECT(rule_deck_to_2(EDITION, NULL, 0, deck, sizeof deck), RULE_DECK_FAULT_CUT, 0);
+    EXPECT(rule_deck_to_1(EDITION, NULL, 0, deck, sizeof deck), RULE_DECK_FAULT_CUT, 0);
 }
 
 static void no_table(void) {
@@ -59,6 +61,10 @@ static void no_buffer(void) {
            RULE_DECK_FAULT_CUT, 0);
     EXPECT(rule_deck_add_element(EDITION, NULL, 0, 0, LIST, no_words, sizeof no_words), RULE_DECK_FAULT_CUT, 0);
     EXPECT(rule_deck_add_word(EDITION, NULL, 0, 0, NULL, 0), RULE_DECK_FAULT_CUT, 0);
+    uint8_t other[sizeof deck];
+    uint64_t n = done("to 2", rule_deck_to_2(EDITION, deck, length, other, sizeof other));
+    EXPECT(rule_deck_to_2(EDITION, deck, length, NULL, 0), RULE_DECK_FAULT_ROOM, 0);
+    EXPECT(rule_deck_to_1(EDITION, other, n, NULL, 0), RULE_DECK_FAULT_ROOM, 0);
 }
 
 static void nothing_given(void) {

@@ -2,17 +2,17 @@
 //! DIR/NAME.txt, always the same bytes.
 mod baseline;
 
-use baseline::deck::{write, Fixed, Rule, MOST_BYTES, MOST_RULES};
+use baseline::deck::{write, Fixed, One, Rule, Two, Version, MOST_BYTES, MOST_RULES};
 use baseline::element::{Data, Element};
 use baseline::kind::{identifiers_of, row, Kind};
 use baseline::lister::list;
-use baseline::random::{damage, data, rules, rules_of_size, small_rule, Random};
+use baseline::random::{damage, data, rules, rules_of_size, small_rule, version, Random};
 use baseline::text::{Form, Text};
 use baseline::STUDIO;
 
 /// The numbers that a read as Studio into the lister's tables can give: the edition is sound, so not 1; Studio has all
 /// identifiers, so not 10; the table of rules has a row for each that a deck may have, so 14 at 1 alone.
-const NUMBERS: [u64; 12] = [2, 3, 4, 5, 6, 7, 8, 9, 11, 12, 13, 14];
+const NUMBERS: [u64; 13] = [2, 3, 4, 5, 6, 7, 8, 9, 11, 12, 13, 14, 29];
 /// How many decks there are for a number, at most, by damages.
 const OF_A_NUMBER: usize = 7;
 /// What `io::large_buffer` holds, into which the lister reads.
@@ -27,7 +27,12 @@ impl Decks {
     }
 
     fn rules(&mut self, name: String, rules: &[Rule]) {
-        self.add(name, write(rules));
+        self.add(name, write(One, rules));
+    }
+
+    fn both(&mut self, name: String, rules: &[Rule]) {
+        self.add(format!("{name}_version_2"), write(Two, rules));
+        self.rules(name, rules);
     }
 
     /// Those that are refused with that number.
@@ -71,7 +76,7 @@ fn words(lengths: &[usize]) -> Element {
 }
 
 fn states(decks: &mut Decks) {
-    decks.rules("document_01".into(), &[small_rule(0x1F5, vec![0x41])]);
+    decks.both("document_01".into(), &[small_rule(0x1F5, vec![0x41])]);
     for n in 0..16 {
         let states: String = (0..4).map(|k| if n >> k & 1 == 1 { "_on" } else { "_off" }).collect();
         let rules: Vec<Rule> = (0..4).map(|k| rule(n >> k & 1 == 1, k, simple(k + 1))).collect();
@@ -94,14 +99,14 @@ fn names(decks: &mut Decks) {
 fn counts(decks: &mut Decks) {
     for n in [0, 2, 9, 10, 11, 99, 100, 101, 255, MOST_RULES] {
         let rules: Vec<Rule> = (0..n).map(|k| rule(k % 3 > 0, k % 5, simple(1 + k % 4))).collect();
-        decks.rules(format!("rules_{n}"), &rules);
+        decks.both(format!("rules_{n}"), &rules);
     }
     for n in [2, 9, 10, 11, 62, 63, 64] {
         decks.rules(format!("elements_{n}"), &[rule(false, 3, simple(n)), rule(true, 0, simple(65 - n))]);
     }
     for n in [LISTED - 1, LISTED, LISTED + 1, LISTED + 2] {
         let many = |k: usize| rule(k % 2 == 0, 0, simple((n - 64 * k).min(64)));
-        decks.rules(format!("all_elements_{n}"), &(0..(n + 63) / 64).map(many).collect::<Vec<_>>());
+        decks.both(format!("all_elements_{n}"), &(0..(n + 63) / 64).map(many).collect::<Vec<_>>());
     }
     let lists = |k| rule(k % 2 == 1, 0, vec![words(&[]); 64]);
     decks.rules("all_elements_5504".into(), &(0..86).map(lists).collect::<Vec<_>>());
@@ -111,7 +116,7 @@ fn kinds(decks: &mut Decks) {
     let all = every_identifier();
     decks.rules("identifiers_in_a_rule".into(), &[rule(true, 1, all.clone())]);
     let alone: Vec<Rule> = all.iter().map(|element| rule(false, 2, vec![element.clone()])).collect();
-    decks.rules("identifiers_in_rules".into(), &alone);
+    decks.both("identifiers_in_rules".into(), &alone);
     for (i, lengths) in [vec![], vec![0], vec![254], vec![255], vec![0, 255, 1], vec![3; 64]].iter().enumerate() {
         let lists = rule(true, 0, vec![words(lengths), words(&[1]), words(lengths)]);
         decks.rules(format!("words_{i}"), &[lists.clone()]);
@@ -122,12 +127,13 @@ fn kinds(decks: &mut Decks) {
 /// Lengths about the longest deck's and about the lister's buffer, sound decks with zeros behind and zeros alone.
 fn lengths(decks: &mut Decks) {
     for n in [MOST_BYTES - 1, MOST_BYTES, MOST_BYTES + 1] {
-        decks.rules(format!("bytes_{n}"), &rules_of_size(n));
+        decks.rules(format!("bytes_{n}"), &rules_of_size(One, n));
+        decks.add(format!("bytes_{n}_version_2"), write(Two, &rules_of_size(Two, n)));
     }
     let sizes = [MOST_BYTES, MOST_BYTES + 1, BUFFER - 1, BUFFER, BUFFER + 1, BUFFER + MOST_BYTES, 3 * BUFFER + 7];
     for n in sizes {
         let longest = if n > MOST_BYTES { MOST_BYTES } else { MOST_BYTES - 1 };
-        let mut bytes = write(&rules_of_size(longest));
+        let mut bytes = write(One, &rules_of_size(One, longest));
         bytes.resize(n, 0);
         decks.add(format!("bytes_{n}_behind"), bytes);
         decks.add(format!("bytes_{n}_zeros"), vec![0; n]);
@@ -150,9 +156,9 @@ fn every_damage(deck: &[u8]) -> Vec<Vec<u8>> {
 /// For each number, decks that are refused with it at different places, spread over those that damages give.
 fn refusals(decks: &mut Decks) {
     let lists = vec![words(&[255, 0]), words(&[])];
-    let deck = write(&[long(rule(true, 254, lists)), rule(false, 0, every_identifier())]);
+    let rules = [long(rule(true, 254, lists)), rule(false, 0, every_identifier())];
     let mut seen: Vec<(String, Vec<u8>)> = Vec::new();
-    for damaged in every_damage(&deck) {
+    for damaged in Version::ALL.iter().flat_map(|&version| every_damage(&write(version, &rules))) {
         let said = list(&damaged);
         if said.starts_with("REFUSED") && !seen.iter().any(|(other, _)| *other == said) {
             seen.push((said, damaged));
@@ -169,7 +175,7 @@ fn refusals(decks: &mut Decks) {
 fn random(decks: &mut Decks) {
     let mut r = Random::new(1);
     for n in 0..60 {
-        let mut bytes = write(&rules(&mut r, STUDIO));
+        let mut bytes = write(version(&mut r), &rules(&mut r, STUDIO));
         if n % 3 == 0 {
             damage(&mut r, &mut bytes);
         }

@@ -1,9 +1,11 @@
-//! Makes samples/every_kind.rdk, a deck that has every identifier, by the baseline: `make_sample FILE`.
+//! Makes the samples by the baseline: `make_sample FOLDER`. They are document 01's deck, in both versions, and a deck that
+//! has every identifier.
 mod baseline;
 
-use baseline::deck::{check, write, Fixed, Rule};
+use baseline::deck::{check, write, Fixed, One, Rule, Two, Version};
 use baseline::element::{Data, Element, Span};
 use baseline::kind::{MARKER, SIMPLE_ACTIONS, SIMPLE_CONDITIONS, SIMPLE_EXCEPTIONS};
+use baseline::random::small_rule;
 use baseline::text::Text;
 use baseline::STUDIO;
 
@@ -73,9 +75,16 @@ fn lists() -> Rule {
     rule(vec![], true, elements)
 }
 
+fn put(name: &str, version: Version, rules: &[Rule]) {
+    let folder = std::env::args().nth(1).expect("make_sample FOLDER");
+    let deck = write(version, rules);
+    assert_eq!(check(STUDIO, &deck), Ok(rules.len() as u64));
+    std::fs::write(format!("{folder}/{name}.rdk"), deck).expect("the sample is written");
+}
+
 fn main() {
-    let file = std::env::args().nth(1).expect("make_sample FILE");
-    let deck = write(&[every_simple(), sizes(), spans(), lists()]);
-    assert_eq!(check(STUDIO, &deck), Ok(4));
-    std::fs::write(file, deck).expect("the sample is written");
+    let one_rule = [small_rule(0x1F5, vec![0x41])];
+    put("one_rule", One, &one_rule);
+    put("one_rule_2", Two, &one_rule);
+    put("every_kind", One, &[every_simple(), sizes(), spans(), lists()]);
 }

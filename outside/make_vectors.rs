@@ -5,6 +5,8 @@ mod baseline;
 mod call;
 #[path = "vectors/cases.rs"]
 mod cases;
+#[path = "vectors/conversion_cases.rs"]
+mod conversion_cases;
 #[path = "vectors/edit_cases.rs"]
 mod edit_cases;
 #[path = "vectors/file.rs"]
@@ -19,6 +21,8 @@ mod pack;
 mod parts;
 #[path = "vectors/value_cases.rs"]
 mod value_cases;
+#[path = "vectors/version_cases.rs"]
+mod version_cases;
 
 use file::File;
 
@@ -54,6 +58,10 @@ fn files() -> Vec<File> {
         form_cases::all_strings(),
         limit_cases::all_lengths(),
         limit_cases::all_counts(),
+        version_cases::all_versions(),
+        version_cases::all_offsets(),
+        version_cases::all_indexes(),
+        conversion_cases::all_conversions(),
     ]
 }
 

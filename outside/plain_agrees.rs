@@ -6,7 +6,7 @@ mod plain;
 use baseline::deck::check;
 use baseline::edit::{edit, Edit};
 use baseline::random::{deck, Random};
-use baseline::tables::{fill, first_byte, word};
+use baseline::tables::{fill, first_byte, name, word};
 use baseline::{coded, DESK};
 
 const DECKS: usize = 20_000;
@@ -39,6 +39,7 @@ fn main() {
         let (bytes, second) = (deck(&mut r, edition), deck(&mut r, edition));
         reads(edition, &bytes);
         let [k, j, e, w] = [4, 3, 3, 3].map(|n| r.below(n) as u64);
+        assert_eq!(plain::name(edition, &bytes, k), coded(first_byte(name(edition, &bytes, k))));
         assert_eq!(plain::word(edition, &bytes, k, e, w), coded(first_byte(word(edition, &bytes, k, e, w))));
         let buffer = [&bytes[..], &r.bytes(400)].concat();
         let on = r.once_in(2);

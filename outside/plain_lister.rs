@@ -10,7 +10,7 @@ fn list(deck: &[u8], out: &mut impl Write) -> std::io::Result<()> {
     if answer % 256 != 0 {
         return writeln!(out, "REFUSED {} {}", answer % 256, answer / 256);
     }
-    writeln!(out, "DECK 1 {}", deck.len())?;
+    writeln!(out, "DECK {} {}", deck[3], deck.len())?;
     let mut all = 0;
     let n = answer as usize / 256;
     for (k, row) in rules.chunks_exact(RULE_WIDTH).take(n).enumerate() {

@@ -9,7 +9,7 @@ mod baseline;
 mod door;
 mod plain;
 
-use baseline::deck::{write, Fixed, Rule};
+use baseline::deck::{write, Fixed, One, Rule, Two};
 use baseline::edit::Edit;
 use baseline::element::{Data, Element, Span};
 use baseline::random::small_rule;
@@ -90,11 +90,23 @@ impl Case<'_> {
         }
     }
 
+    fn check(&self) {
+        let (edition, deck) = (self.edition, self.deck);
+        self.compare("check", (), |_| door::check(edition, deck), |_| plain::check(edition, deck));
+    }
+
+    /// The name of the last rule.
+    fn name(&self) {
+        let (edition, deck, last) = (self.edition, self.deck, self.rules as u64 - 1);
+        self.compare("name", (), |_| door::name(edition, deck, last), |_| plain::name(edition, deck, last));
+    }
+
     /// A rule more would be one too many of 256: a deck of 255 is inserted into, the last rule of itself in front.
     fn calls(&self, less: &[u8]) {
         let (edition, deck) = (self.edition, self.deck);
         let last = self.rules as u64 - 1;
-        self.compare("check", (), |_| door::check(edition, deck), |_| plain::check(edition, deck));
+        self.check();
+        self.name();
         let tables = (vec![0u32; 2048], vec![0u32; 8192]);
         self.compare(
             "read",
@@ -121,10 +133,13 @@ fn main() {
     for (shape, rule) in shapes {
         for n in [1, 32, 256] {
             let rules: Vec<Rule> = (0..n).map(rule).collect();
-            let deck = write(&rules);
+            let deck = write(One, &rules);
             std::fs::write(format!("{}/{shape}.{n}", words[2]), &deck).unwrap();
-            Case { edition, shape, deck: &deck, rules: n }.calls(&write(&rules[1..]));
+            Case { edition, shape, deck: &deck, rules: n }.calls(&write(One, &rules[1..]));
+            let indexed = Case { edition, shape: &format!("{shape}_2"), deck: &write(Two, &rules), rules: n };
+            indexed.check();
+            indexed.name();
         }
     }
-    std::fs::write(format!("{}/none.0", words[2]), write(&[])).unwrap();
+    std::fs::write(format!("{}/none.0", words[2]), write(One, &[])).unwrap();
 }

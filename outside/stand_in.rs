@@ -3,9 +3,12 @@
 mod baseline;
 #[path = "stand_in/forms.rs"]
 mod forms;
+#[path = "stand_in/versions.rs"]
+mod versions;
 
 use baseline::coded;
-use baseline::deck::{check, Fixed};
+use baseline::convert::convert;
+use baseline::deck::{check, Fixed, One, Two, Version};
 use baseline::edit::{edit, start, Edit};
 use baseline::results;
 use baseline::tables::{fill, first_byte, name, word, RULE_WIDTH};
@@ -46,7 +49,8 @@ pub unsafe extern "C" fn rule_deck_check(edition: u64, deck: In, len: usize) -> 
     if fault() == 1 && len >= 62 {
         bytes[61] = 0; // an identifier looked up by its low 24 bits
     }
-    forms::checked(edition, &bytes, coded(check(edition, &bytes)))
+    let answer = coded(check(edition, &bytes));
+    versions::checked(edition, &bytes, forms::checked(edition, &bytes, answer))
 }
 
 /// What a read with a fault makes of a table of so many rules.
@@ -75,6 +79,7 @@ pub unsafe extern "C" fn rule_deck_read(
     let answer = coded(fill(edition, part(deck, len), rules, elements));
     if answer % 256 == 0 {
         faulty_rows(rules, (answer / 256) as usize);
+        versions::faulty_rows(part(deck, len), rules);
     }
     if fault() == 26 && answer == 14 {
         let done = rule_deck_check(edition, deck, len);
@@ -120,7 +125,25 @@ unsafe fn on(edition: u64, buf: Out, len: usize, length: u64, what: Edit) -> u64
     if fault() == 8 && answer == 19 && new == 0 && len < 60_001 {
         return 20; // 20 before 19
     }
-    forms::left(buffer, &before[..(length as usize).min(len)], &what, answer)
+    let old = &before[..(length as usize).min(len)];
+    let answer = forms::left(buffer, old, &what, answer);
+    versions::left(edition, buffer, old, &what, answer)
+}
+
+unsafe fn converted(to: Version, edition: u64, deck: In, len: usize, buf: Out, n: usize) -> u64 {
+    let (deck, buffer) = (part(deck, len), lent(buf, n));
+    let answer = coded(convert(to, edition, deck, buffer));
+    versions::converted(to, edition, deck, buffer, answer)
+}
+
+#[no_mangle]
+pub unsafe extern "C" fn rule_deck_to_2(edition: u64, deck: In, len: usize, buf: Out, n: usize) -> u64 {
+    converted(Two, edition, deck, len, buf, n)
+}
+
+#[no_mangle]
+pub unsafe extern "C" fn rule_deck_to_1(edition: u64, deck: In, len: usize, buf: Out, n: usize) -> u64 {
+    converted(One, edition, deck, len, buf, n)
 }
 
 #[no_mangle]
@@ -208,10 +231,10 @@ pub unsafe extern "C" fn rule_deck_add_word(
     on(edition, buf, len, length, Edit::AddWord { word: part(word, n).to_vec() })
 }
 
-/// 256 times the major number, plus the minor: 1.2.
+/// 256 times the major number, plus the minor: 1.3.
 #[no_mangle]
 pub extern "C" fn rule_deck_version() -> u64 {
-    258
+    259
 }
 
 #[no_mangle]

@@ -29,6 +29,7 @@ fn faulty_line(fault: u64, deck: &[u8], line: &str, element: usize) -> String {
             format!("RULE {k} {state} {} {count}", 1 + units.parse::<usize>().expect("a number"))
         }
         (7, "ELEM", [i, identifier, size]) => format!("ELEM {i} {} {size}", identifier.to_lowercase()),
+        (10, "DECK", [_, bytes]) => format!("DECK 1 {bytes}"), // whichever version
         (8, "END", [rules, elements]) => format!("END {elements} {rules}"),
         _ => line.to_string(),
     }

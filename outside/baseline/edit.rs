@@ -1,5 +1,5 @@
-//! The seven edits, by their definition: read, edit the list, write, lay in the buffer.
-use super::deck::{read, write, Fixed, Rule, MOST_BYTES, MOST_ELEMENTS, MOST_RULES, MOST_WORDS};
+//! The seven edits, by their definition: read, edit the list, write in the same version, lay in the buffer.
+use super::deck::{read, write, Deck, Fixed, One, Rule, MOST_BYTES, MOST_ELEMENTS, MOST_RULES, MOST_WORDS};
 use super::element::{given_element, Data};
 use super::text::{units_of, Text};
 use super::{given, judge_edition, refuse, Answer};
@@ -103,35 +103,39 @@ fn lay(buffer: &mut [u8], old: usize, deck: &[u8]) {
     }
 }
 
-/// An edit: 1, 15, 2 to 13, those of `edited`, 18, 19, 20; done, the new length.
-pub fn edit(edition: u64, buffer: &mut [u8], length: u64, edit: &Edit) -> Answer<u64> {
-    judge_edition(edition)?;
-    if length > buffer.len() as u64 {
-        return refuse(15, 0);
-    }
-    let old = length as usize;
-    let rules = read(edition, &buffer[..old])?.rules;
-    let rules = edited(edition, rules, edit)?;
-    if rules.len() > MOST_RULES {
-        return refuse(18, 0);
-    }
-    let deck = write(&rules);
+/// "19: result over 60,000 bytes", "20: result longer than the buffer".
+pub fn judge_room(deck: &[u8], buffer: &[u8]) -> Answer<()> {
     if deck.len() > MOST_BYTES {
         return refuse(19, 0);
     }
     if deck.len() > buffer.len() {
         return refuse(20, 0);
     }
+    Ok(())
+}
+
+/// An edit: 1, 15, 2 to 13 and 29, those of `edited`, 18, 19, 20; done, the new length.
+pub fn edit(edition: u64, buffer: &mut [u8], length: u64, edit: &Edit) -> Answer<u64> {
+    judge_edition(edition)?;
+    if length > buffer.len() as u64 {
+        return refuse(15, 0);
+    }
+    let old = length as usize;
+    let Deck { version, rules, .. } = read(edition, &buffer[..old])?;
+    let rules = edited(edition, rules, edit)?;
+    if rules.len() > MOST_RULES {
+        return refuse(18, 0);
+    }
+    let deck = write(version, &rules);
+    judge_room(&deck, buffer)?;
     lay(buffer, old, &deck);
     Ok(deck.len() as u64)
 }
 
 /// "Starting an empty deck takes a buffer alone, writes its first 7 bytes, touches no other and answers 7".
 pub fn start(buffer: &mut [u8]) -> Answer<u64> {
-    let deck = write(&[]);
-    if buffer.len() < deck.len() {
-        return refuse(20, 0);
-    }
+    let deck = write(One, &[]);
+    judge_room(&deck, buffer)?;
     buffer[..deck.len()].copy_from_slice(&deck);
     Ok(deck.len() as u64)
 }

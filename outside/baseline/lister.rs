@@ -10,7 +10,7 @@ fn lines(bytes: &[u8]) -> Answer<String> {
     if all > LISTED_ELEMENTS {
         return refuse(14, 1);
     }
-    let mut text = format!("DECK 1 {}\n", bytes.len());
+    let mut text = format!("DECK {} {}\n", deck.version as u8, bytes.len());
     for (k, (rule, place)) in deck.rules.iter().zip(&deck.places).enumerate() {
         let state = if rule.fixed.on { "ON" } else { "OFF" };
         text += &format!("RULE {k} {state} {} {}\n", rule.name.units.len(), rule.elements.len());

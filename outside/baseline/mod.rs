@@ -4,6 +4,7 @@
 #![allow(dead_code)]
 #![forbid(unsafe_code)]
 
+pub mod convert;
 pub mod date;
 pub mod deck;
 pub mod edit;
@@ -56,3 +57,5 @@ pub fn judge_edition(edition: u64) -> Answer<()> {
 
 #[cfg(test)]
 mod tests;
+#[cfg(test)]
+mod version_tests;

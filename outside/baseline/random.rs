@@ -1,5 +1,5 @@
 //! Random decks by a seed of one's own: xorshift, no clock and no machine in it.
-use super::deck::{write, Fixed, Rule, MOST_BYTES};
+use super::deck::{write, Fixed, Rule, Two, Version, HEADER, MOST_BYTES};
 use super::element::{data_bytes, Data, Element, Span};
 use super::kind::{identifiers_of, row, Kind};
 use super::text::Text;
@@ -138,14 +138,18 @@ pub fn rule(r: &mut Random, edition: u64) -> Rule {
     Rule { fixed: fixed(r), name: text(r), elements }
 }
 
-/// A list of rules whose deck has at most 60,000 bytes.
+/// A list of rules whose deck has at most 60,000 bytes, in either version.
 pub fn rules(r: &mut Random, edition: u64) -> Vec<Rule> {
     let n = r.below(5);
     let mut rules: Vec<Rule> = (0..n).map(|_| rule(r, edition)).collect();
-    while write(&rules).len() > MOST_BYTES {
+    while write(Two, &rules).len() > MOST_BYTES {
         rules.pop();
     }
     rules
+}
+
+pub fn version(r: &mut Random) -> Version {
+    r.pick(&Version::ALL)
 }
 
 /// A rule with one simple element, its name in the shortest form.
@@ -154,14 +158,15 @@ pub fn small_rule(identifier: u32, units: Vec<u16>) -> Rule {
     Rule { fixed, name: Text::shortest(units), elements: vec![Element { identifier, data: Data::Simple }] }
 }
 
-/// Rules, of simple elements alone, whose deck has exactly that many bytes: 14,000 to 61,000.
-pub fn rules_of_size(bytes: usize) -> Vec<Rule> {
-    // 7 bytes, a first rule of 61, others of 45, and two for each unit
+/// Rules, of simple elements alone, whose deck in that version has exactly that many bytes: 14,000 to 61,000.
+pub fn rules_of_size(version: Version, bytes: usize) -> Vec<Rule> {
+    // a first rule of 61 bytes, others of 45, and two for each unit
+    let unnamed = |others| version.rules_start(1 + others) + 61 + 45 * others;
     let mut others = bytes / 500;
-    if (7 + 61 + 45 * others) % 2 != bytes % 2 {
+    if unnamed(others) % 2 != bytes % 2 {
         others += 1;
     }
-    let mut units_left = (bytes - 7 - 61 - 45 * others) / 2;
+    let mut units_left = (bytes - unnamed(others)) / 2;
     let mut rules = Vec::new();
     for _ in 0..=others {
         let n = units_left.min(254);
@@ -185,31 +190,60 @@ fn lengthen(r: &mut Random, rules: &mut [Rule]) {
     }
 }
 
+/// How many offsets a deck has by its first bytes.
+fn offsets(bytes: &[u8]) -> usize {
+    match bytes {
+        [_, _, _, 2, 0, low, high, ..] => usize::from(*low) + 256 * usize::from(*high),
+        _ => 0,
+    }
+}
+
+/// One of the offsets, if there are any, says another place: near its own, another rule's, or none.
+pub fn misplace(r: &mut Random, bytes: &mut [u8]) {
+    let count = offsets(bytes);
+    let (k, other) = (r.below(count.max(1)), r.below(count.max(1)));
+    let number = |k: usize| bytes.get(HEADER + 4 * k..HEADER + 4 * k + 4)?.try_into().ok().map(u32::from_le_bytes);
+    if let (true, Some(own), Some(another)) = (count > 0, number(k), number(other)) {
+        let near = own.wrapping_add(r.below(9) as u32).wrapping_sub(4);
+        let says = r.pick(&[near, near, another, 0, 7, own ^ 1 << 16, bytes.len() as u32, u32::MAX]);
+        bytes[HEADER + 4 * k..HEADER + 4 * k + 4].copy_from_slice(&says.to_le_bytes());
+    }
+}
+
+/// The first name's length becomes that of a long form.
+fn lengthen_first(r: &mut Random, bytes: &mut [u8]) {
+    let at = HEADER + 4 * offsets(bytes) + 4;
+    if let Some(length) = bytes.get_mut(at..at + 3) {
+        length.copy_from_slice(&long_length(r));
+    }
+}
+
 /// The bytes with one or more faults in them.
 pub fn damage(r: &mut Random, bytes: &mut Vec<u8>) {
     for _ in 0..1 + r.below(2) {
         let at = r.below(bytes.len() + 1);
-        match r.below(7) {
+        match r.below(8) {
             0 => bytes.truncate(at),
             1 => bytes.extend(vec![0; 1 + at % 3]),
             2 => bytes.insert(at, r.next() as u8),
             3 if at < bytes.len() => drop(bytes.remove(at)),
             4 if at < bytes.len() => bytes[at] = r.pick(&[0, 1, 2, 0x7F, 0x80, 0xF5, 0xFE, 0xFF]),
-            5 if bytes.len() > 13 => bytes[11..14].copy_from_slice(&long_length(r)), // a first name's
+            5 => lengthen_first(r, bytes),
+            6 => misplace(r, bytes),
             _ if at < bytes.len() => bytes[at] ^= 1 << r.below(8),
             _ => {}
         }
     }
 }
 
-/// A deck that mostly is sound in that edition.
+/// A deck of either version that mostly is sound in that edition.
 pub fn deck(r: &mut Random, edition: u64) -> Vec<u8> {
     let edition = if r.once_in(12) { DESK + STUDIO - edition } else { edition };
     let mut rules = rules(r, edition);
     if r.once_in(40) {
         lengthen(r, &mut rules);
     }
-    let mut bytes = write(&rules);
+    let mut bytes = write(version(r), &rules);
     if r.once_in(4) {
         damage(r, &mut bytes);
     }

@@ -1,7 +1,7 @@
 //! The baseline held against document 01's own examples, and against itself by another way.
 use super::date::{accepted, civil, Civil};
-use super::deck::{check, read, write, Fixed, Rule};
-use super::edit::{edit, edited, start, Edit};
+use super::deck::{check, read, write, Fixed, One, Rule, Version};
+use super::edit::{edit, edited, Edit};
 use super::element::{data_bytes, given_element, Data, Element};
 use super::kind::{alone, identifiers, identifiers_of, row, Kind};
 use super::lister::list;
@@ -13,7 +13,7 @@ use super::value::{put_value, value_of, Value};
 use super::{coded, refuse, Answer, DESK, STUDIO};
 
 /// "One deck whole", byte by byte as the page has it.
-fn one_deck() -> Vec<u8> {
+pub fn one_deck() -> Vec<u8> {
     let mut deck = vec![0x52, 0x44, 0x4B, 0x01, 0x00, 0x01, 0x00, 0, 0, 0, 0, 0x01, 0x41, 0x00, 0x01, 0, 0, 0];
     deck.extend([0; 16]);
     deck.extend([0x20, 0, 0, 0, 0x01, 0x00, 0xFF, 0xFF, 0x00, 0x00, 0x0C, 0x00]);
@@ -51,7 +51,7 @@ fn document_deck() {
 
 /// A deck whose second rule is this one, and the last number of that rule's row.
 fn second_of_two(rule: Rule) -> (Vec<u8>, usize) {
-    let deck = write(&[random::small_rule(0xC8, vec![0x41]), rule]);
+    let deck = write(One, &[random::small_rule(0xC8, vec![0x41]), rule]);
     let (mut rules, mut elements) = ([7; 2 * RULE_WIDTH], [7; 2 * ELEMENT_WIDTH]);
     assert_eq!(fill(DESK, &deck, &mut rules, &mut elements), Ok(2));
     assert_eq!(fill(DESK, &deck, &mut rules[..2 * RULE_WIDTH - 1], &mut []), refuse(14, 0));
@@ -93,7 +93,7 @@ fn both_forms_are_read() {
         assert_eq!(string, [says, vec![0xFF; 2 * n]].concat());
         let deck = named(&string);
         let rules = read(STUDIO, &deck).unwrap().rules;
-        assert_eq!((&rules[0].name, write(&rules)), (&text, deck));
+        assert_eq!((&rules[0].name, write(One, &rules)), (&text, deck));
         let data = [&[1, 0, 0, 0, 0, 0, 0, 0], &string[..]].concat();
         let element = given_element(STUDIO, 0x211, &data).unwrap();
         assert_eq!((data_bytes(&element.data), element.data), (data, Data::Words(vec![text])));
@@ -120,7 +120,7 @@ fn more_than_255_units() {
 }
 
 /// The length that an edit answers, and the bytes that it leaves up to the longer of the two decks.
-fn edited_deck(deck: &[u8], what: &Edit) -> (u64, Vec<u8>) {
+pub fn edited_deck(deck: &[u8], what: &Edit) -> (u64, Vec<u8>) {
     let mut buffer = [deck, &[0xA5; 600]].concat();
     let length = edit(STUDIO, &mut buffer, deck.len() as u64, what).unwrap();
     let most = deck.len().max(length as usize);
@@ -143,7 +143,7 @@ fn a_rename_takes_the_shortest_form() {
 }
 
 /// A rule whose Strings all have the long form: its name and two words.
-fn long_rule() -> Rule {
+pub fn long_rule() -> Rule {
     let words = vec![Text::long(vec![]), Text::long(vec![0x42])];
     let list = Element { identifier: 0x213, data: Data::Words(words) };
     Rule { name: Text::long(vec![0x41]), elements: vec![list], ..random::small_rule(0xC8, vec![]) }
@@ -151,7 +151,7 @@ fn long_rule() -> Rule {
 
 #[test]
 fn an_inserted_rule_keeps_its_forms() {
-    let second = write(&[long_rule()]);
+    let second = write(One, &[long_rule()]);
     let (_, left) = edited_deck(&one_deck(), &Edit::Insert { k: 1, second, j: 0 });
     let rules = read(STUDIO, &left).unwrap().rules;
     assert_eq!(rules[1], long_rule());
@@ -160,7 +160,7 @@ fn an_inserted_rule_keeps_its_forms() {
 
 #[test]
 fn an_added_word_leaves_those_before_it() {
-    let deck = write(&[long_rule()]);
+    let deck = write(One, &[long_rule()]);
     let (_, left) = edited_deck(&deck, &Edit::AddWord { word: vec![0x43, 0] });
     let words = deck.len() - 16; // 4 zero bytes each, of the first 3 bytes and of the second 5
     assert_eq!(left[words - 4..words], [3, 0, 0, 0]);
@@ -174,10 +174,10 @@ fn given_data_keeps_its_forms() {
     assert_eq!(data, [2, 0, 0, 0, 0, 0, 0, 0, 0xFF, 0, 0, 0, 0, 0, 0, 0xFF, 1, 0, 0x42, 0]);
     let (name, fixed) = (vec![0x41, 0], long_rule().fixed);
     let add = Edit::AddRule { name, fixed, identifier: 0x213, data: data.clone() };
-    let (_, left) = edited_deck(&write(&[]), &add);
+    let (_, left) = edited_deck(&write(One, &[]), &add);
     assert!(left.ends_with(&data));
     assert_eq!(left[11..14], [1, 0x41, 0]);
-    let deck = write(&[long_rule()]);
+    let deck = write(One, &[long_rule()]);
     let (_, left) = edited_deck(&deck, &Edit::AddElement { identifier: 0x213, data: data.clone() });
     assert!(left.ends_with(&data));
     assert_eq!(left[11..16], deck[11..16]);
@@ -270,7 +270,7 @@ fn values() {
 }
 
 /// A call on a table of sevens: its answer, and the table after it.
-fn lent<T: Copy + From<u8>, const N: usize>(call: impl FnOnce(&mut [T]) -> Answer<u64>) -> (Answer<u64>, [T; N]) {
+pub fn lent<T: Copy + From<u8>, const N: usize>(call: impl FnOnce(&mut [T]) -> Answer<u64>) -> (Answer<u64>, [T; N]) {
     let mut table = [T::from(7); N];
     (call(&mut table), table)
 }
@@ -304,10 +304,13 @@ fn parts_and_fields() {
     let words = [vec![], vec![0xD800; 254], vec![0; 255]].map(Text::shortest).to_vec();
     let list = Element { identifier: 0x212, data: Data::Words(words) };
     let fixed = random::small_rule(0xC8, vec![]).fixed;
-    let deck = write(&[
-        Rule { fixed, name: Text::shortest(vec![1; 254]), elements: vec![list] },
-        random::small_rule(0xC8, vec![2; 255]),
-    ]);
+    let deck = write(
+        One,
+        &[
+            Rule { fixed, name: Text::shortest(vec![1; 254]), elements: vec![list] },
+            random::small_rule(0xC8, vec![2; 255]),
+        ],
+    );
     let word = |w| lent(|table| results::word_part(STUDIO, &deck, [0, 0, w], table));
     let start = 12 + 508 + 4 + 16 + 4 + 2 + 18 + 4; // the fields from the name to the list's data
     assert_eq!(lent(|table| results::name_part(STUDIO, &deck, 0, table)), (Ok(0), [12, 508, 0]));
@@ -321,7 +324,7 @@ fn parts_and_fields() {
 
 #[test]
 fn a_part_has_the_form_that_is_there() {
-    let deck = write(&[long_rule()]);
+    let deck = write(One, &[long_rule()]);
     assert_eq!(lent(|table| results::name_part(STUDIO, &deck, 0, table)), (Ok(0), [14, 2, 1, 7]));
     let word = |w| lent(|table| results::word_part(STUDIO, &deck, [0, 0, w], table));
     let start = 16 + 4 + 16 + 4 + 2 + 18 + 4; // the fields from the name to the list's data
@@ -396,12 +399,13 @@ fn numbers_as_data() {
     assert_eq!(results::put_value(DESK, 0xF5, &[1, 0xF5, 0, 0, 0], &mut [0; 7]), refuse(20, 0));
 }
 
-fn sizes_fit(rules: &[Rule], bytes: &[u8]) {
+fn sizes_fit(version: Version, rules: &[Rule], bytes: &[u8]) {
     let deck = read(STUDIO, bytes).unwrap();
-    assert_eq!(deck.rules, rules);
+    assert_eq!((deck.version, &deck.rules[..]), (version, rules));
+    let index = version.index(rules.len());
     for (k, place) in deck.places.iter().enumerate() {
-        assert_eq!(write(&rules[..=k]).len(), place.end);
-        assert_eq!(write(&rules[..k]).len(), place.start);
+        assert_eq!(index + write(One, &rules[..=k]).len(), place.end);
+        assert_eq!(index + write(One, &rules[..k]).len(), place.start);
         for (element, at) in rules[k].elements.iter().zip(&place.elements) {
             assert_eq!(data_bytes(&element.data), &bytes[at.start..at.end]);
             assert_eq!(matches!(element.data, Data::Words(_)), row(element.identifier) == Some(Kind::WordList));
@@ -413,16 +417,18 @@ fn sizes_fit(rules: &[Rule], bytes: &[u8]) {
 fn decks_round() {
     let mut r = Random::new(13);
     for _ in 0..5_000 {
-        let rules = random::rules(&mut r, STUDIO);
-        sizes_fit(&rules, &write(&rules));
-        let mut bytes = write(&rules);
+        let (version, rules) = (random::version(&mut r), random::rules(&mut r, STUDIO));
+        let mut bytes = write(version, &rules);
+        sizes_fit(version, &rules, &bytes);
         random::damage(&mut r, &mut bytes);
         if let Ok(deck) = read(STUDIO, &bytes) {
-            assert_eq!(write(&deck.rules), bytes);
+            assert_eq!(write(deck.version, &deck.rules), bytes);
         }
     }
     for size in [14_000, 59_999, 60_000, 60_001, 60_002] {
-        assert_eq!(write(&random::rules_of_size(size)).len(), size);
+        for version in Version::ALL {
+            assert_eq!(write(version, &random::rules_of_size(version, size)).len(), size);
+        }
     }
 }
 
@@ -435,7 +441,7 @@ fn random_edit(r: &mut Random, rules: &[Rule]) -> Edit {
         0 => Edit::Switch { k, on: r.once_in(2) },
         1 => Edit::Rename { k, name },
         2 => Edit::Remove { k },
-        3 => Edit::Insert { k, second: write(&random::rules(r, STUDIO)), j: r.below(3) as u64 },
+        3 => Edit::Insert { k, second: write(random::version(r), &random::rules(r, STUDIO)), j: r.below(3) as u64 },
         4 => Edit::AddRule { name, fixed: random::fixed(r), identifier: element.identifier, data },
         5 => Edit::AddElement { identifier: element.identifier, data },
         _ => Edit::AddWord { word: name },
@@ -447,8 +453,9 @@ fn edits_read_back() {
     let mut r = Random::new(14);
     for _ in 0..300 {
         let mut buffer = r.bytes(9_000);
-        let mut length = start(&mut buffer).unwrap();
-        let mut rules = Vec::new();
+        let version = random::version(&mut r);
+        buffer[..7].copy_from_slice(&write(version, &[]));
+        let (mut length, mut rules) = (7, Vec::new());
         for _ in 0..40 {
             let wanted = random_edit(&mut r, &rules);
             let before = buffer.clone();
@@ -458,7 +465,8 @@ fn edits_read_back() {
                 Err(_) => assert_eq!(buffer, before),
                 Ok(new) => {
                     rules = list.unwrap();
-                    assert_eq!(read(STUDIO, &buffer[..new as usize]).unwrap().rules, rules);
+                    assert_eq!(buffer[..new as usize], write(version, &rules));
+                    sizes_fit(version, &rules, &buffer[..new as usize]);
                     let most = new.max(length) as usize;
                     assert_eq!(buffer[most..], before[most..]);
                     assert!(buffer[new as usize..most].iter().all(|&b| b == 0));
@@ -472,10 +480,10 @@ fn edits_read_back() {
 #[test]
 fn first_rule_taken_out() {
     let rules = vec![random::small_rule(0xC8, vec![1]), random::small_rule(0xC9, vec![2])];
-    let mut buffer = write(&rules);
+    let mut buffer = write(One, &rules);
     let old = buffer.len();
     assert_eq!(edit(DESK, &mut buffer, old as u64, &Edit::Remove { k: 0 }), Ok(70));
-    assert_eq!(buffer[..70], write(&rules[1..]));
+    assert_eq!(buffer[..70], write(One, &rules[1..]));
     assert_eq!(buffer[70..], [0; 47]);
     assert_eq!(buffer[34..38], [0x20, 0, 0, 0]);
 }

@@ -1,5 +1,5 @@
 //! Every cut and every damage of a single byte, of decks that together have every identifier.
-use crate::baseline::deck::{write, Fixed, Rule};
+use crate::baseline::deck::{write, Fixed, One, Rule, Two};
 use crate::baseline::element::{Data, Element, Span};
 use crate::baseline::kind::{identifiers_of, row, Kind};
 use crate::baseline::random::small_rule;
@@ -60,15 +60,17 @@ fn both_forms() -> Vec<Rule> {
 
 pub fn decks() -> Vec<Vec<u8>> {
     vec![
-        write(&[]),
-        write(&[small_rule(0x1F5, vec![0x41])]),
-        write(&[rule(0, vec![element(0x64)]), rule(1, vec![element(0x14F)])]),
-        write(&every_kind(DESK)),
-        write(&every_kind(STUDIO)),
-        write(&[rule(3, vec![words(&[(Form::Short, 0); 64])])]),
-        write(&[rule_in(Form::Long, 255, vec![words(&[(Form::Short, 1)])])]),
-        write(&both_forms()),
-        write(&[rule_in(Form::Long, 254, vec![words(&[(Form::Long, 1)])])]),
+        write(One, &[]),
+        write(One, &[small_rule(0x1F5, vec![0x41])]),
+        write(One, &[rule(0, vec![element(0x64)]), rule(1, vec![element(0x14F)])]),
+        write(One, &every_kind(DESK)),
+        write(One, &every_kind(STUDIO)),
+        write(One, &[rule(3, vec![words(&[(Form::Short, 0); 64])])]),
+        write(One, &[rule_in(Form::Long, 255, vec![words(&[(Form::Short, 1)])])]),
+        write(One, &both_forms()),
+        write(Two, &[]),
+        write(Two, &both_forms()),
+        write(One, &[rule_in(Form::Long, 254, vec![words(&[(Form::Long, 1)])])]),
     ]
 }
 

@@ -1,5 +1,5 @@
-//! Whole decks: the check, the tables, the views, and the tables that say fixed fields and parts.
-use crate::baseline::deck::{read, write, Deck};
+//! Whole decks: the check, the tables, the views, the tables that say fixed fields and parts, and conversions.
+use crate::baseline::deck::{read, write, Deck, One, Two};
 use crate::baseline::random::{deck, rules_of_size, Random};
 use crate::baseline::results::{fields_in, name_part_in, word_part_in, FIELDS, PART};
 use crate::baseline::tables::{fill_from, first_byte, name_in, word_in, ELEMENT_WIDTH, RULE_WIDTH};
@@ -8,9 +8,10 @@ use crate::baseline::{coded, Answer, DESK, STUDIO};
 use crate::lent::{every_size, tables_differ};
 use crate::lesser::smallest_deck;
 use crate::share::{hex, pieces, said, Answers};
-use crate::{door, Outcome, Plan};
+use crate::{conversions, door, Outcome, Plan};
 
-/// The first difference that the calls on this deck show. `far` asks for tables of several sizes, for views, fixed fields and parts.
+/// The first difference that the calls on this deck show. `far` asks for tables of several sizes, for views, fixed fields,
+/// parts and conversions.
 pub fn differs(edition: u64, bytes: &[u8], far: bool) -> Option<String> {
     let deck = read(edition, bytes);
     let baseline = coded(deck.as_ref().map(|deck| deck.rules.len() as u64).map_err(|r| *r));
@@ -22,7 +23,8 @@ pub fn differs(edition: u64, bytes: &[u8], far: bool) -> Option<String> {
 }
 
 fn more(edition: u64, bytes: &[u8], deck: &Answer<Deck>, far: bool) -> Option<String> {
-    tables(edition, bytes, deck, far).or_else(|| if far { views(edition, bytes, deck) } else { None })
+    let further = || views(edition, bytes, deck).or_else(|| conversions::differs(edition, bytes, deck));
+    tables(edition, bytes, deck, far).or_else(|| if far { further() } else { None })
 }
 
 const AS_FOUND: u32 = 0xA5A5_A5A5;
@@ -144,6 +146,16 @@ fn random_edition(r: &mut Random) -> u64 {
     }
 }
 
+/// Decks of about 60,000 bytes in each version; and of version 1 those that become so long in version 2.
+fn long(bytes: usize) -> Outcome {
+    let mut cases = 0;
+    for (of, version) in [(One, One), (Two, Two), (Two, One)] {
+        let deck = write(version, &rules_of_size(of, bytes));
+        cases += compare(DESK, &deck, true)? + compare(STUDIO, &deck, true)? + compare(3, &deck, true)?;
+    }
+    Ok(cases)
+}
+
 /// Random decks, sound and damaged, small ones; and sound ones about 60,000 bytes long.
 pub fn all(plan: &Plan) -> Outcome {
     let each = (plan.decks / 1000).max(1) as usize;
@@ -158,11 +170,9 @@ pub fn all(plan: &Plan) -> Outcome {
         }
         Ok(cases)
     })?;
-    let long = pieces(8, |i| {
-        let bytes = write(&rules_of_size(59_997 + i));
-        Ok(compare(DESK, &bytes, true)? + compare(STUDIO, &bytes, true)? + compare(3, &bytes, true)?)
-    })?;
+    let long = pieces(8, |i| long(59_997 + i))?;
     println!("compare: decks: how often each number was answered: fields{}", FIELDS_ANSWERS.counted());
     println!("compare: decks: how often each number was answered: parts{}", PART_ANSWERS.counted());
+    println!("compare: decks: how often each number was answered: conversions{}", conversions::ANSWERS.counted());
     Ok(long + random)
 }

@@ -1,5 +1,5 @@
 //! Identifiers: each in a deck of one rule with one element, in both editions, through the deck check.
-use crate::baseline::deck::{check, write};
+use crate::baseline::deck::{check, write, One};
 use crate::baseline::kind::{identifiers, judge};
 use crate::baseline::random::{small_rule, Random};
 use crate::baseline::{coded, DESK, STUDIO};
@@ -10,7 +10,7 @@ const PLACE: usize = 58;
 
 /// The deck of document 01, whose identifier stands at 58 and is followed by 1, 0.
 fn deck_of_one() -> Vec<u8> {
-    write(&[small_rule(0x1F5, vec![0x41])])
+    write(One, &[small_rule(0x1F5, vec![0x41])])
 }
 
 /// The baseline's answer. Up to the identifier the deck is sound, so 9 and 10 stand there; for the

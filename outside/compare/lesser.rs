@@ -1,5 +1,5 @@
 //! Smaller cases of one that fails.
-use crate::baseline::deck::{read, write, Rule};
+use crate::baseline::deck::{read, write, Deck, One, Rule, Two};
 use crate::baseline::element::{Data, Element};
 use crate::baseline::text::Text;
 use crate::baseline::STUDIO;
@@ -66,11 +66,14 @@ fn in_shortest_form(text: &mut Text) {
     *text = Text::shortest(std::mem::take(&mut text.units));
 }
 
-/// Decks that have one thing less, if this one is sound.
+/// Decks that have one thing less, if this one is sound: an index, or a thing of its rules.
 pub fn lesser_decks(bytes: &[u8]) -> Vec<Vec<u8>> {
     match read(STUDIO, bytes) {
         Err(_) => Vec::new(),
-        Ok(deck) => with_less(&deck.rules).iter().map(|rules| write(rules)).collect(),
+        Ok(Deck { version, rules, .. }) => {
+            let plain = if version == Two { vec![write(One, &rules)] } else { Vec::new() };
+            plain.into_iter().chain(with_less(&rules).iter().map(|rules| write(version, rules))).collect()
+        }
     }
 }
 

@@ -1,6 +1,7 @@
-//! Runs of edits: after each call the answers and every byte of the two buffers, and of a guard behind
+//! Runs of edits and conversions: after each call the answers and every byte of the two buffers, and of a guard behind
 //! them, must be the same.
-use crate::baseline::deck::{write, Rule, MOST_BYTES};
+use crate::baseline::convert::convert;
+use crate::baseline::deck::{write, Rule, Version, MOST_BYTES};
 use crate::baseline::edit::{edit, start, Edit};
 use crate::baseline::element::{Data, Element};
 use crate::baseline::kind::{row, Kind, WORD_LISTS};
@@ -20,6 +21,7 @@ static ANSWERS: Answers = Answers::new();
 enum Step {
     Start,
     Edit(Edit),
+    Convert(Version), // of the deck, copied out, into its buffer
 }
 
 /// A call; no length means the true one.
@@ -65,12 +67,21 @@ impl State {
         }
     }
 
+    /// What a rule more takes in the index.
+    fn offset(&self) -> usize {
+        4 * usize::from(self.deck().get(3) == Some(&2))
+    }
+
     fn call(&mut self, call: &Call) -> Option<String> {
         let length = call.length.unwrap_or(self.length as u64);
+        let deck = self.baseline[..length.min(self.capacity as u64) as usize].to_vec();
         let (a, b) = (&mut self.archive[..self.capacity], &mut self.baseline[..self.capacity]);
         let (archive, baseline) = match &call.step {
             Step::Start => (door::start(a), coded(start(b))),
             Step::Edit(what) => (door::edit(call.edition, a, length, what), coded(edit(call.edition, b, length, what))),
+            Step::Convert(to) => {
+                (door::convert(*to, call.edition, &deck, a), coded(convert(*to, call.edition, &deck, b)))
+            }
         };
         if archive != baseline {
             return Some(said("answer", archive, baseline));
@@ -225,8 +236,9 @@ fn list_of(r: &mut Random, n: usize) -> Element {
 
 /// The deck that a run begins with.
 fn first_deck(r: &mut Random, theme: Theme, edition: u64) -> Vec<u8> {
+    let version = random::version(r);
     let mut rules = match theme {
-        Theme::Big => random::rules_of_size(59_400 + r.below(601)),
+        Theme::Big => random::rules_of_size(version, 59_400 + r.below(601)),
         Theme::ManyRules => (0..253 + r.below(4)).map(|_| random::small_rule(0xC8, Vec::new())).collect(),
         _ => random::rules(r, edition),
     };
@@ -238,10 +250,10 @@ fn first_deck(r: &mut Random, theme: Theme, edition: u64) -> Vec<u8> {
         let n = if theme == Theme::Big { r.below(3) } else { 61 + r.below(4) };
         rules.push(Rule { elements: vec![list_of(r, n)], ..random::small_rule(0x12D, vec![]) });
     }
-    while write(&rules).len() > MOST_BYTES {
+    while write(version, &rules).len() > MOST_BYTES {
         rules.remove(0);
     }
-    let mut bytes = write(&rules);
+    let mut bytes = write(version, &rules);
     if r.once_in(25) {
         random::damage(r, &mut bytes);
     }
@@ -294,7 +306,10 @@ fn number(r: &mut Random, count: usize) -> u64 {
 fn second_deck(r: &mut Random, state: &State, edition: u64) -> Vec<u8> {
     match r.below(16) {
         0 => state.deck().to_vec(),
-        1 => write(&random::rules_of_size(r.pick(&[59_999, 60_000, 60_001]))),
+        1 => {
+            let version = random::version(r);
+            write(version, &random::rules_of_size(version, r.pick(&[59_999, 60_000, 60_001])))
+        }
         _ => random::deck(r, edition),
     }
 }
@@ -308,7 +323,7 @@ fn given_element(r: &mut Random, edition: u64) -> (u32, Vec<u8>) {
 
 fn add_rule(r: &mut Random, state: &State, edition: u64, theme: Theme) -> Edit {
     let (identifier, data) = given_element(r, edition);
-    let name = new_units(r, state, theme, 37 + data.len());
+    let name = new_units(r, state, theme, 37 + data.len() + state.offset());
     Edit::AddRule { name, fixed: random::fixed(r), identifier, data }
 }
 
@@ -352,7 +367,11 @@ fn random_call(r: &mut Random, state: &State, edition: u64, theme: Theme) -> Cal
         _ => edition,
     };
     let own = if edition == DESK || edition == STUDIO { edition } else { DESK };
-    let step = if r.once_in(400) { Step::Start } else { Step::Edit(random_edit(r, state, own, theme)) };
+    let step = match r.below(400) {
+        0 => Step::Start,
+        1..=20 => Step::Convert(random::version(r)),
+        _ => Step::Edit(random_edit(r, state, own, theme)),
+    };
     Call { edition, length, step }
 }
 

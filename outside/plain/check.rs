@@ -92,6 +92,7 @@ fn limit(s: &[u8], at: usize) -> Answer<usize> {
     Ok(at + 16)
 }
 
+#[inline(always)]
 fn element(s: &[u8], at: usize, edition: u64) -> Answer<usize> {
     let identifier = word(s, at)? as usize;
     let (kind, desk) = *KINDS.get(identifier).unwrap_or(&(Kind::None, false));
@@ -165,8 +166,40 @@ fn rule(s: &[u8], at: usize, edition: u64, first: bool) -> Answer<(usize, usize)
     Ok((at, count as usize))
 }
 
-/// How many rules and elements a deck has.
-pub fn check(edition: u64, s: &[u8]) -> Answer<(usize, usize)> {
+/// How many rules and elements a deck has, and the bytes of each offset of its index: none in version 1.
+#[derive(Clone, Copy)]
+pub struct Deck {
+    pub rules: usize,
+    pub elements: usize,
+    pub offset: usize,
+}
+
+pub const HEADER: usize = 7;
+
+impl Deck {
+    pub fn rules_start(&self) -> usize {
+        HEADER + self.offset * self.rules
+    }
+}
+
+fn offset(s: &[u8], at: usize) -> Answer<usize> {
+    match field::<2>(s, at)? {
+        [1, 0] => Ok(0),
+        [2, 0] => Ok(4),
+        _ => Err(Refused(5, at)),
+    }
+}
+
+#[inline(never)]
+fn judge_offset(s: &[u8], k: usize, start: usize) -> Answer<()> {
+    let at = HEADER + 4 * k;
+    if word(s, at)? as usize != start {
+        return Err(Refused(29, at));
+    }
+    Ok(())
+}
+
+pub fn check(edition: u64, s: &[u8]) -> Answer<Deck> {
     if edition != 1 && edition != 2 {
         return Err(Refused(1, 0));
     }
@@ -174,20 +207,26 @@ pub fn check(edition: u64, s: &[u8]) -> Answer<(usize, usize)> {
         return Err(Refused(2, 60_000));
     }
     let at = constant(s, 0, *b"RDK", 4)?;
-    let at = constant(s, at, [1, 0], 5)?;
-    let count = u16::from_le_bytes(field::<2>(s, at)?);
-    if count > 256 {
-        return Err(Refused(6, at));
+    let offset = offset(s, at)?;
+    let rules = u16::from_le_bytes(field::<2>(s, at + 2)?) as usize;
+    if rules > 256 {
+        return Err(Refused(6, at + 2));
     }
-    let mut at = at + 2;
+    let mut at = HEADER + offset * rules;
+    if at > s.len() {
+        return Err(Refused(3, s.len() - (s.len() - HEADER) % 4));
+    }
     let mut elements = 0;
-    for i in 0..count {
-        let (end, n) = rule(s, at, edition, i == 0)?;
+    for k in 0..rules {
+        if offset > 0 {
+            judge_offset(s, k, at)?;
+        }
+        let (end, n) = rule(s, at, edition, k == 0)?;
         at = end;
         elements += n;
     }
     if at < s.len() {
         return Err(Refused(13, at));
     }
-    Ok((count as usize, elements))
+    Ok(Deck { rules, elements, offset })
 }

@@ -20,12 +20,18 @@ fn coded(answer: Answer<usize>) -> u64 {
 
 #[inline(never)]
 pub fn check(edition: u64, s: &[u8]) -> u64 {
-    coded(check::check(edition, s).map(|(rules, _)| rules))
+    coded(check::check(edition, s).map(|deck| deck.rules))
 }
 
 #[inline(never)]
 pub fn read(edition: u64, s: &[u8], rules: &mut [u32], elements: &mut [u32]) -> u64 {
     coded(tables::read(edition, s, rules, elements))
+}
+
+/// The first byte of the name of rule k.
+#[inline(never)]
+pub fn name(edition: u64, s: &[u8], k: u64) -> u64 {
+    coded(step::name(edition, s, k))
 }
 
 /// The first byte of word w of element e of rule k.

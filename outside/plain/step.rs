@@ -1,5 +1,5 @@
 //! Steps over a deck that was judged.
-use super::check::{check, Kind, KINDS};
+use super::check::{check, Deck, Kind, HEADER, KINDS};
 use super::{Answer, Refused};
 
 pub fn u16_in(s: &[u8], at: usize) -> usize {
@@ -23,14 +23,22 @@ pub fn size_at(s: &[u8], at: usize) -> usize {
     units(s, at + 4).1 + 20
 }
 
-fn rule_end(s: &[u8], at: usize) -> usize {
+pub fn rule_end(s: &[u8], at: usize) -> usize {
     let size = size_at(s, at);
     size + 4 + u32_in(s, size) as usize
 }
 
+/// Where rule k starts: as its offset says, or by a step over each rule before it.
+fn start(s: &[u8], deck: &Deck, k: usize) -> usize {
+    match deck.offset {
+        0 => (0..k).fold(HEADER, |at, _| rule_end(s, at)),
+        n => u32_in(s, HEADER + n * k) as usize,
+    }
+}
+
 /// Where rule k starts and where it ends.
-pub fn rule(s: &[u8], k: usize) -> (usize, usize) {
-    let start = (0..k).fold(7, |at, _| rule_end(s, at));
+pub fn rule(s: &[u8], deck: &Deck, k: usize) -> (usize, usize) {
+    let start = start(s, deck, k);
     (start, rule_end(s, start))
 }
 
@@ -52,13 +60,21 @@ pub fn data_end(s: &[u8], identifier: u32, at: usize) -> usize {
     }
 }
 
+pub fn name(edition: u64, s: &[u8], k: u64) -> Answer<usize> {
+    let deck = check(edition, s)?;
+    if k >= deck.rules as u64 {
+        return Err(Refused(16, 0));
+    }
+    Ok(units(s, start(s, &deck, k as usize) + 4).0)
+}
+
 pub fn word(edition: u64, s: &[u8], k: u64, e: u64, w: u64) -> Answer<usize> {
-    let (rules, _) = check(edition, s)?;
-    if k >= rules as u64 {
+    let deck = check(edition, s)?;
+    if k >= deck.rules as u64 {
         return Err(Refused(16, 0));
     }
     let k = k as usize;
-    let count = size_at(s, rule(s, k).0) + 4;
+    let count = size_at(s, start(s, &deck, k)) + 4;
     if e >= u16_in(s, count) as u64 {
         return Err(Refused(16, 1));
     }

@@ -1,13 +1,13 @@
 //! A deck in two lent tables.
-use super::check::check;
+use super::check::{check, Deck};
 use super::step::{data_end, head_size, size_at, u16_in, u32_in, units};
 use super::{Answer, Refused};
 
 pub const RULE_WIDTH: usize = 5;
 const ELEMENT_WIDTH: usize = 4;
 
-fn fill(s: &[u8], rules: &mut [u32], elements: &mut [u32]) {
-    let mut at = 7;
+fn fill(s: &[u8], deck: &Deck, rules: &mut [u32], elements: &mut [u32]) {
+    let mut at = deck.rules_start();
     let mut element_rows = elements.chunks_exact_mut(ELEMENT_WIDTH);
     for (k, row) in rules.chunks_exact_mut(RULE_WIDTH).enumerate() {
         let start = at;
@@ -29,13 +29,14 @@ fn fill(s: &[u8], rules: &mut [u32], elements: &mut [u32]) {
 }
 
 pub fn read(edition: u64, s: &[u8], rules: &mut [u32], elements: &mut [u32]) -> Answer<usize> {
-    let (r, e) = check(edition, s)?;
+    let deck = check(edition, s)?;
+    let (r, e) = (deck.rules, deck.elements);
     if rules.len() / RULE_WIDTH < r {
         return Err(Refused(14, 0));
     }
     if elements.len() / ELEMENT_WIDTH < e {
         return Err(Refused(14, 1));
     }
-    fill(s, &mut rules[..RULE_WIDTH * r], &mut elements[..ELEMENT_WIDTH * e]);
+    fill(s, &deck, &mut rules[..RULE_WIDTH * r], &mut elements[..ELEMENT_WIDTH * e]);
     Ok(r)
 }

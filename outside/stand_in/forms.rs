@@ -1,5 +1,5 @@
 //! Faults of a String's form.
-use crate::baseline::deck::{check, read, write, Rule, RulePlace};
+use crate::baseline::deck::{check, read, write, One, Rule, RulePlace};
 use crate::baseline::edit::Edit;
 use crate::baseline::element::Data;
 use crate::baseline::text::{Form, Text, View};
@@ -79,7 +79,8 @@ pub fn left(buffer: &mut [u8], old: &[u8], what: &Edit, answer: u64) -> u64 {
         return answer;
     }
     let rules = |deck| read(STUDIO, deck).map_or(Vec::new(), |deck| deck.rules);
-    match faulty(&rules(old), rules(&buffer[..new]), what).map(|rules| write(&rules)) {
+    let version = |deck| read(STUDIO, deck).map_or(One, |deck| deck.version);
+    match faulty(&rules(old), rules(&buffer[..new]), what).map(|rules| write(version(old), &rules)) {
         Some(deck) if deck.len() <= buffer.len() => {
             buffer[..deck.len()].copy_from_slice(&deck);
             256 * deck.len() as u64

@@ -1,5 +1,6 @@
 //! The calls that a vector may ask for, run over the baseline.
-use crate::baseline::deck::{check, Fixed};
+use crate::baseline::convert::convert;
+use crate::baseline::deck::{check, Fixed, One, Two};
 use crate::baseline::edit::{edit, start, Edit};
 use crate::baseline::results;
 use crate::baseline::tables::{fill, first_byte, name, part, word};
@@ -26,6 +27,8 @@ pub const ADD_ELEMENT: u8 = 16;
 pub const ADD_WORD: u8 = 17;
 pub const NAME_PART: u8 = 18;
 pub const WORD_PART: u8 = 19;
+pub const TO_2: u8 = 20;
+pub const TO_1: u8 = 21;
 
 /// The most numbers of a lent table.
 pub const MOST_ROOM: u64 = 2048;
@@ -162,6 +165,8 @@ fn on_buffer(call: &Call) -> (u64, Vec<u8>) {
     let answer = match call.call {
         START => start(&mut buffer),
         PUT_VALUE => results::put_value(n[0], n[1] as u32, &n[2..], &mut buffer),
+        TO_2 => convert(Two, n[0], &call.bytes[1], &mut buffer),
+        TO_1 => convert(One, n[0], &call.bytes[1], &mut buffer),
         _ => edit(n[0], &mut buffer, n[1], &wanted(call)),
     };
     (coded(answer), buffer)

@@ -1,5 +1,5 @@
 //! The cases of what is read: identifiers, dates, checks, tables and views.
-use crate::baseline::deck::{check, read, write};
+use crate::baseline::deck::{check, read, write, One};
 use crate::baseline::kind::identifiers;
 use crate::baseline::random::{self, Random};
 use crate::baseline::results;
@@ -81,7 +81,7 @@ pub fn all_dates() -> File {
 pub fn all_checks() -> File {
     let mut file = File::new("checks");
     for rules in sample_decks() {
-        let deck = write(&rules);
+        let deck = write(One, &rules);
         file.base(&deck);
         for edition in [0, 1, 2, 3, 257, (1 << 32) + 1, MOST] {
             file.call(CHECK, &[edition], &[&deck]);
@@ -97,8 +97,8 @@ pub fn all_checks() -> File {
 
 /// Decks whose tables and views are asked for.
 fn table_decks() -> Vec<Vec<u8>> {
-    let mut decks: Vec<Vec<u8>> = sample_decks().iter().map(|rules| write(rules)).collect();
-    decks.push(write(&[]));
+    let mut decks: Vec<Vec<u8>> = sample_decks().iter().map(|rules| write(One, rules)).collect();
+    decks.push(write(One, &[]));
     decks.push(decks[0][..69].to_vec());
     decks.push([&decks[1][..], &[0]].concat());
     decks
@@ -121,7 +121,7 @@ pub fn all_tables() -> File {
 }
 
 /// Tables that fit so many rules and elements, that are short of one number, or of one a rule, empty ones, longer ones.
-fn reads(file: &mut File, edition: u64, deck: &[u8], rules: usize, elements: usize) {
+pub fn reads(file: &mut File, edition: u64, deck: &[u8], rules: usize, elements: usize) {
     let (r, e) = table_rooms(rules, elements);
     let (r1, e1) = (r.saturating_sub(1), e.saturating_sub(1));
     let mut rooms = vec![(r, e), (r1, e), (r - rules as u64, e), (r, e1), (r1, e1), (0, 0), (r + 3, e + 7)];
@@ -135,7 +135,7 @@ fn reads(file: &mut File, edition: u64, deck: &[u8], rules: usize, elements: usi
 fn named_rules(file: &mut File, units: usize) {
     let named = rule(units, vec![element(0xC8)]);
     for rules in [vec![named.clone()], vec![rule(3, vec![element(0x64)]), named]] {
-        let deck = write(&rules);
+        let deck = write(One, &rules);
         file.base(&deck);
         reads(file, DESK, &deck, rules.len(), rules.len());
     }
@@ -150,7 +150,7 @@ pub fn all_views() -> File {
     file
 }
 
-fn views(file: &mut File, deck: &[u8]) {
+pub fn views(file: &mut File, deck: &[u8]) {
     let rules = read(STUDIO, deck).map_or(Vec::new(), |d| d.places);
     let count = rules.len() as u64;
     for edition in [1, 2, 3] {

@@ -1,5 +1,5 @@
 //! The cases of edits: each edit, given faults, the order of refusals, runs.
-use crate::baseline::deck::{check, write};
+use crate::baseline::deck::{check, write, One, Version};
 use crate::baseline::edit::Edit;
 use crate::baseline::element::{data_bytes, Data, Element};
 use crate::baseline::kind::{identifiers, identifiers_of};
@@ -9,8 +9,8 @@ use crate::call::*;
 use crate::file::File;
 use crate::parts::*;
 
-/// The edits that are tried on a deck of three rules.
-fn plain_edits(edition: u64) -> Vec<Edit> {
+/// The edits that are tried on a deck of three rules, with second decks of that version.
+pub fn plain_edits(edition: u64, version: Version) -> Vec<Edit> {
     let mut edits = Vec::new();
     for k in [0, 1, 2, 3, 4, 256, 1 << 32, MOST] {
         edits.extend([Edit::Switch { k, on: true }, Edit::Switch { k, on: false }, Edit::Remove { k }]);
@@ -18,9 +18,9 @@ fn plain_edits(edition: u64) -> Vec<Edit> {
             edits.push(Edit::Rename { k, name: units(n) });
         }
         for j in [0, 1, 2, MOST] {
-            edits.push(Edit::Insert { k, second: write(&two_rules(edition)), j });
+            edits.push(Edit::Insert { k, second: write(version, &two_rules(edition)), j });
         }
-        edits.push(Edit::Insert { k, second: write(&[]), j: 0 });
+        edits.push(Edit::Insert { k, second: write(version, &[]), j: 0 });
     }
     for n in [0, 1, 254, 255] {
         edits.extend([simple_rule(units(n)), Edit::AddWord { word: units(n) }]);
@@ -46,20 +46,20 @@ pub fn all_edits() -> File {
         file.call(START, &[], &[&buffered(&[], n)]);
     }
     for edition in EDITIONS {
-        let deck = write(&three_rules(edition));
+        let deck = write(One, &three_rules(edition));
         file.base(&buffered(&deck, 700));
-        for what in plain_edits(edition) {
+        for what in plain_edits(edition, One) {
             edit(&mut file, edition, &deck, 700, &what);
         }
     }
-    let empty = write(&[]);
+    let empty = write(One, &[]);
     for edition in EDITIONS {
         let data = data_bytes(&Data::Simple);
         edit(&mut file, edition, &empty, 90, &simple_rule(units(3)));
         edit(&mut file, edition, &empty, 90, &Edit::AddElement { identifier: 0xC8, data });
         edit(&mut file, edition, &empty, 90, &Edit::AddWord { word: units(1) });
         edit(&mut file, edition, &empty, 90, &Edit::Remove { k: 0 });
-        edit(&mut file, edition, &empty, 90, &Edit::Insert { k: 0, second: write(&two_rules(edition)), j: 1 });
+        edit(&mut file, edition, &empty, 90, &Edit::Insert { k: 0, second: write(One, &two_rules(edition)), j: 1 });
     }
     file
 }
@@ -68,14 +68,14 @@ pub fn all_edits() -> File {
 pub fn all_given() -> File {
     let mut file = File::new("given");
     for edition in EDITIONS {
-        let deck = write(&three_rules(edition));
-        let second = write(&two_rules(edition));
+        let deck = write(One, &three_rules(edition));
+        let second = write(One, &two_rules(edition));
         file.base(&[&deck[..], &second].concat());
         for bytes in each_answer(faulty_decks(&second), |b| coded(check(edition, b))) {
             edit(&mut file, edition, &deck, 200, &Edit::Insert { k: 1, second: bytes, j: 1 });
         }
         for (i, bytes) in each_answer(faulty_decks(&deck), |b| coded(check(edition, b))).iter().enumerate() {
-            edit(&mut file, edition, bytes, 30, &plain_edits(edition)[7 * i % 90]);
+            edit(&mut file, edition, bytes, 30, &plain_edits(edition, One)[7 * i % 90]);
         }
         for Element { identifier, data } in shapes() {
             for data in each_answer(faulty_data(&data_bytes(&data)), |b| value_answer(edition, identifier, b)) {
@@ -93,7 +93,7 @@ pub fn all_given() -> File {
 }
 
 /// An edit of each sort, sound on `three_rules` but for what a case makes wrong.
-fn one_of_each(k: u64, second: &[u8], j: u64, name: &[u8], identifier: u32) -> Vec<Edit> {
+pub fn one_of_each(k: u64, second: &[u8], j: u64, name: &[u8], identifier: u32) -> Vec<Edit> {
     let data = data_bytes(&Data::Simple);
     let (name, second) = (name.to_vec(), second.to_vec());
     vec![
@@ -111,8 +111,8 @@ fn one_of_each(k: u64, second: &[u8], j: u64, name: &[u8], identifier: u32) -> V
 pub fn all_orders() -> File {
     let mut file = File::new("orders");
     for edition in EDITIONS {
-        let deck = write(&three_rules(edition));
-        let second = write(&two_rules(edition));
+        let deck = write(One, &three_rules(edition));
+        let second = write(One, &two_rules(edition));
         let broken = [&second[..], &[0]].concat();
         let odd = [1, 2, 3];
         file.base(&buffered(&deck, 100));
@@ -163,7 +163,7 @@ pub fn all_runs() -> File {
     file
 }
 
-fn random_edit(r: &mut Random, edition: u64, rules: u64) -> Edit {
+pub fn random_edit(r: &mut Random, edition: u64, rules: u64) -> Edit {
     let k = r.below(rules.max(1) as usize) as u64;
     let identifier = r.pick(&identifiers_of(edition));
     let data = data_bytes(&element(identifier).data);
@@ -175,7 +175,7 @@ fn random_edit(r: &mut Random, edition: u64, rules: u64) -> Edit {
         0 => Edit::Switch { k, on: r.once_in(2) },
         1 => Edit::Rename { k, name },
         2 => Edit::Remove { k },
-        3 => Edit::Insert { k, second: write(&two_rules(edition)), j: k % 2 },
+        3 => Edit::Insert { k, second: write(One, &two_rules(edition)), j: k % 2 },
         4 => add_rule(name, identifier, data),
         5 => Edit::AddElement { identifier, data },
         6 if edition == STUDIO => Edit::AddElement { identifier: 0x211, data: vec![0; 4] },

@@ -51,7 +51,7 @@ pub fn answers(files: &[File]) -> String {
     let mut all: Vec<u64> = files.iter().flat_map(|file| file.answers.iter().copied()).collect();
     all.sort_unstable_by_key(|a| (a % 256, a / 256));
     let mut text = format!("{} vectors; number: times, places", all.len());
-    for code in 0..46 {
+    for code in 0..62 {
         let mut places: Vec<u64> = all.iter().filter(|&a| a % 256 == code).map(|a| a / 256).collect();
         let times = places.len();
         places.dedup();

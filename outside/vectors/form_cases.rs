@@ -1,5 +1,5 @@
 //! The cases of a String's form: names and words in each form, kept or chosen afresh; lengths that no String has.
-use crate::baseline::deck::{check, write, Rule};
+use crate::baseline::deck::{check, write, One, Rule};
 use crate::baseline::edit::Edit;
 use crate::baseline::element::{data_bytes, Data, Element};
 use crate::baseline::random::rules_of_size;
@@ -41,7 +41,7 @@ fn names(file: &mut File, text: &Text) {
     let other = rule(2, vec![element(0x12D)]);
     let named = Rule { name: text.clone(), ..rule(1, vec![element(0xC8), element(0x64)]) };
     for (k, rules) in [(0, [named.clone(), other.clone()]), (1, [other, named])] {
-        let deck = write(&rules);
+        let deck = write(One, &rules);
         file.base(&buffered(&deck, 1300));
         file.call(CHECK, &[DESK], &[&deck]);
         let (r, e) = table_rooms(2, 3);
@@ -75,7 +75,7 @@ fn list_of(words: &[&Text]) -> Element {
 fn lists(file: &mut File, text: &Text) {
     let list = list_of(&[text, &Text::shortest(vec![0x41]), text]);
     let data = data_bytes(&list.data);
-    let deck = write(&[rule(1, vec![element(0xE0)]), rule(2, vec![element(0x64), list])]);
+    let deck = write(One, &[rule(1, vec![element(0xE0)]), rule(2, vec![element(0x64), list])]);
     file.base(&buffered(&deck, 1300));
     file.call(CHECK, &[STUDIO], &[&deck]);
     let (r, e) = table_rooms(2, 3);
@@ -91,7 +91,7 @@ fn lists(file: &mut File, text: &Text) {
     for what in edits {
         edit(file, STUDIO, &deck, 1300, &what);
     }
-    edit(file, STUDIO, &write(&[]), 1300, &add_rule(units(0), 0x219, data));
+    edit(file, STUDIO, &write(One, &[]), 1300, &add_rule(units(0), 0x219, data));
 }
 
 /// Lengths beyond 255, with their units and without; lengths that are cut, and units that are.
@@ -114,7 +114,7 @@ fn faulty_strings() -> Vec<Vec<u8>> {
 
 /// The String as a name, first and second in its deck, at the deck's end or with the rest of its rule behind.
 fn faulty_names(file: &mut File, string: &[u8]) {
-    let deck = write(&[rule(1, vec![element(0xC8)]), rule(1, vec![element(0xC9)])]);
+    let deck = write(One, &[rule(1, vec![element(0xC8)]), rule(1, vec![element(0xC9)])]);
     file.base(&buffered(&deck, 30));
     for start in [7, deck.len() - 47] {
         for rest in [&deck[start + 7..], &[]] {
@@ -131,7 +131,7 @@ fn faulty_names(file: &mut File, string: &[u8]) {
 
 /// The String as a word of lone data and of given data, at their end or with another word behind.
 fn faulty_words(file: &mut File, string: &[u8]) {
-    let deck = write(&three_rules(STUDIO));
+    let deck = write(One, &three_rules(STUDIO));
     file.base(&buffered(&deck, 30));
     for rest in [&[0; 5][..], &[]] {
         let data = [&[2, 0, 0, 0, 0, 0, 0, 0], string, rest].concat();
@@ -147,7 +147,7 @@ fn long_rules() -> Vec<Rule> {
 
 /// Faults of a deck and of data whose Strings have the long form: each answer once for each edition.
 fn damages(file: &mut File) {
-    let deck = write(&long_rules());
+    let deck = write(One, &long_rules());
     file.base(&deck);
     for edition in EDITIONS {
         for bytes in each_answer(faulty_decks(&deck), |b| coded(check(edition, b))) {
@@ -163,10 +163,10 @@ fn damages(file: &mut File) {
 
 /// A last name in the long form, in a deck of 60,000 bytes and in a buffer of just its length: 2 bytes come free.
 fn at_the_limits(file: &mut File) {
-    let mut rules = rules_of_size(59_998);
+    let mut rules = rules_of_size(One, 59_998);
     let last = rules.len() - 1;
     rules[last].name.form = Form::Long;
-    let (deck, n) = (write(&rules), rules[last].name.units.len());
+    let (deck, n) = (write(One, &rules), rules[last].name.units.len());
     file.base(&deck);
     file.call(CHECK, &[STUDIO], &[&deck]);
     for name in [n, n + 1, n + 2].map(units) {
@@ -174,7 +174,7 @@ fn at_the_limits(file: &mut File) {
             edit(file, DESK, &deck, more, &Edit::Rename { k: last as u64, name: name.clone() });
         }
     }
-    let small = write(&long_rules());
+    let small = write(One, &long_rules());
     for name in [1, 2, 3].map(units) {
         for more in [0, 1, 2] {
             edit(file, STUDIO, &small, more, &Edit::Rename { k: 0, name: name.clone() });
@@ -191,7 +191,7 @@ fn run(file: &mut File) {
     let (_, left) = file.add(Call { call: START, numbers: Vec::new(), bytes: vec![buffer] });
     buffer = left;
     let mut length = 7;
-    let second = write(&long_rules());
+    let second = write(One, &long_rules());
     let data = data_bytes(&long_rules()[1].elements[0].data);
     for what in [
         Edit::Insert { k: 0, second: second.clone(), j: 1 },

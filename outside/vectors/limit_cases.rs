@@ -1,5 +1,5 @@
 //! The cases at the limits: bytes, rules, elements, words, buffers.
-use crate::baseline::deck::{write, Rule};
+use crate::baseline::deck::{write, One, Rule};
 use crate::baseline::edit::Edit;
 use crate::baseline::element::{data_bytes, Data};
 use crate::baseline::random::{rules_of_size, small_rule};
@@ -27,11 +27,11 @@ pub fn all_counts() -> File {
 }
 
 fn deck_lengths(file: &mut File) {
-    file.base(&write(&rules_of_size(60_000)));
+    file.base(&write(One, &rules_of_size(One, 60_000)));
     let (r, e) = table_rooms(121, 121); // of the deck of 60,000 bytes
     for edition in [0, 1, 2] {
         for size in [59_999, 60_000, 60_001] {
-            let deck = write(&rules_of_size(size));
+            let deck = write(One, &rules_of_size(One, size));
             file.call(CHECK, &[edition], &[&deck]);
             name(file, edition, &deck, 119);
             file.call(READ, &[edition, r - 1, e - 1], &[&deck]);
@@ -39,7 +39,7 @@ fn deck_lengths(file: &mut File) {
             edit(file, edition, &deck, 40, &Edit::Switch { k: 119, on: false });
             edit(file, edition, &deck, 0, &Edit::Remove { k: 0 });
             let copy = Edit::Insert { k: 1, second: deck, j: 119 };
-            edit(file, edition, &write(&two_rules(edition.max(1))), 600, &copy);
+            edit(file, edition, &write(One, &two_rules(edition.max(1))), 600, &copy);
         }
         file.call(CHECK, &[edition], &[&vec![0; 60_000]]);
         file.call(CHECK, &[edition], &[&vec![0; 60_001]]);
@@ -54,8 +54,8 @@ fn near(n: usize) -> [usize; 4] {
 fn long_results(file: &mut File) {
     let list = Rule { elements: vec![words(&[])], ..small_rule(0xC8, Vec::new()) };
     for end in [0, 1] {
-        let mut rules = rules_of_size(59_900 + end);
-        let deck = write(&rules);
+        let mut rules = rules_of_size(One, 59_900 + end);
+        let deck = write(One, &rules);
         let gap = 60_000 - deck.len();
         file.base(&deck);
         for n in near((gap - 45) / 2) {
@@ -64,7 +64,7 @@ fn long_results(file: &mut File) {
                     edit(file, edition, &deck, more, &simple_rule(units(n)));
                 }
             }
-            let second = write(&[small_rule(0xC8, Vec::new()), small_rule(0xCA, vec![9; n])]);
+            let second = write(One, &[small_rule(0xC8, Vec::new()), small_rule(0xCA, vec![9; n])]);
             edit(file, DESK, &deck, gap + 2, &Edit::Insert { k: 5, second: second.clone(), j: 1 });
             edit(file, DESK, &deck, gap, &Edit::Insert { k: 0, second, j: 1 });
         }
@@ -80,7 +80,7 @@ fn long_results(file: &mut File) {
             edit(file, STUDIO, &deck, gap + 5, &Edit::AddElement { identifier: 0x211, data });
         }
         rules.push(list.clone());
-        let deck = write(&rules);
+        let deck = write(One, &rules);
         let gap = 60_000 - deck.len();
         file.base(&deck);
         for n in near((gap - 5) / 2) {
@@ -93,7 +93,7 @@ fn long_results(file: &mut File) {
 fn many_rules(file: &mut File) {
     for n in [255, 256] {
         let rules = vec![small_rule(0xC8, Vec::new()); n];
-        let deck = write(&rules);
+        let deck = write(One, &rules);
         file.base(&deck);
         for edition in EDITIONS {
             file.call(CHECK, &[edition], &[&deck]);
@@ -118,14 +118,14 @@ fn many_rules(file: &mut File) {
     // 18 before 19: 256 rules of nearly 60,000 bytes, and one more
     let mut rules = vec![small_rule(0xC8, vec![6; 94]); 256];
     rules[0].name.units.clear();
-    let deck = write(&rules);
+    let deck = write(One, &rules);
     file.base(&deck);
     for more in [0, 1000] {
         edit(file, DESK, &deck, more, &simple_rule(units(255)));
         edit(file, DESK, &deck, more, &Edit::Rename { k: 0, name: units(255) });
         edit(file, DESK, &deck, more, &Edit::Rename { k: 1, name: units(255) });
     }
-    let mut over = write(&[]);
+    let mut over = write(One, &[]);
     over[5..7].copy_from_slice(&257u16.to_le_bytes());
     file.call(CHECK, &[DESK], &[&over]);
 }
@@ -133,7 +133,7 @@ fn many_rules(file: &mut File) {
 fn many_elements(file: &mut File) {
     for n in [63, 64] {
         for edition in EDITIONS {
-            let deck = write(&[small_rule(0xC8, vec![1]), rule(2, vec![element(0x12D); n])]);
+            let deck = write(One, &[small_rule(0xC8, vec![1]), rule(2, vec![element(0x12D); n])]);
             file.base(&deck);
             file.call(CHECK, &[edition], &[&deck]);
             let (r, e) = table_rooms(2, n + 1);
@@ -146,7 +146,7 @@ fn many_elements(file: &mut File) {
         }
     }
     for count in [0, 65, 256] {
-        let mut deck = write(&[small_rule(0xC8, vec![1])]);
+        let mut deck = write(One, &[small_rule(0xC8, vec![1])]);
         deck[38..40].copy_from_slice(&(count as u16).to_le_bytes());
         file.call(CHECK, &[DESK], &[&deck]);
         file.call(CHECK, &[STUDIO], &[&deck]);
@@ -155,7 +155,7 @@ fn many_elements(file: &mut File) {
 
 fn many_words(file: &mut File) {
     for n in [0, 63, 64] {
-        let deck = write(&[rule(3, vec![element(0x20C), words(&vec![0; n])])]);
+        let deck = write(One, &[rule(3, vec![element(0x20C), words(&vec![0; n])])]);
         file.base(&deck);
         for edition in EDITIONS {
             file.call(CHECK, &[edition], &[&deck]);
@@ -167,7 +167,7 @@ fn many_words(file: &mut File) {
             }
         }
     }
-    let long = write(&[rule(0, vec![words(&[255; 64])])]);
+    let long = write(One, &[rule(0, vec![words(&[255; 64])])]);
     file.call(CHECK, &[STUDIO], &[&long]);
     word(file, STUDIO, &long, [0, 0, 63]);
     edit(file, STUDIO, &long, 3, &Edit::AddWord { word: vec![0] });
@@ -176,7 +176,7 @@ fn many_words(file: &mut File) {
 /// Buffers that end exactly where the result does, or one byte before.
 fn short_buffers(file: &mut File) {
     for edition in EDITIONS {
-        let deck = write(&three_rules(edition));
+        let deck = write(One, &three_rules(edition));
         file.base(&deck);
         for (what, grows) in [
             (simple_rule(units(2)), 49),
@@ -184,8 +184,8 @@ fn short_buffers(file: &mut File) {
             (Edit::AddWord { word: units(4) }, 13),
             (Edit::Rename { k: 0, name: units(9) }, 16),
             (Edit::Rename { k: 1, name: units(255) }, 508),
-            (Edit::Insert { k: 0, second: write(&two_rules(edition)), j: 1 }, 71),
-            (Edit::Insert { k: 3, second: write(&two_rules(edition)), j: 1 }, 71),
+            (Edit::Insert { k: 0, second: write(One, &two_rules(edition)), j: 1 }, 71),
+            (Edit::Insert { k: 3, second: write(One, &two_rules(edition)), j: 1 }, 71),
             (Edit::Remove { k: 0 }, 0),
             (Edit::Switch { k: 0, on: false }, 0),
         ] {

@@ -1,5 +1,5 @@
 //! Elements, rules, decks and faulty strings that the cases are made of.
-use crate::baseline::deck::{Fixed, Rule};
+use crate::baseline::deck::{Fixed, One, Rule, Two, Version};
 use crate::baseline::edit::Edit;
 use crate::baseline::element::{data_bytes, Data, Element, Span};
 use crate::baseline::kind::{identifiers_of, row, Kind};
@@ -158,6 +158,15 @@ pub fn simple_rule(name: Vec<u8>) -> Edit {
 
 pub fn edit(file: &mut File, edition: u64, deck: &[u8], more: usize, what: &Edit) -> u64 {
     file.add(of_edit(edition, &buffered(deck, more), deck.len() as u64, what)).0
+}
+
+/// A deck into a buffer, to that version.
+pub fn convert(file: &mut File, to: Version, edition: u64, deck: &[u8], buffer: &[u8]) -> (u64, Vec<u8>) {
+    let call = match to {
+        Two => TO_2,
+        One => TO_1,
+    };
+    file.add(Call { call, numbers: vec![edition], bytes: vec![buffer.to_vec(), deck.to_vec()] })
 }
 
 /// The call of a table that has just the room it needs.

@@ -17,6 +17,7 @@ ghost use Rattle.rule.specs.Laws.Parts.{headBytes};
 ghost use Rattle.parts.specs.Laws.Text.{textBytes};
 ghost use Rattle.given.specs.Given.{isText};
 ghost use Rattle.plan.specs.Edit.{addRule, Edits};
+ghost use Rattle.plan.specs.Handed.{HandedFields};
 ghost use Rattle.plan.specs.Laws.Found.{MakesAs};
 ghost use Rattle.add_rule.specs.Laws.Rule.{keptBytes, frontBytes, backBytes, Extends};
 
@@ -35,7 +36,7 @@ fn put_kept(buf: &mut [u8], at: usize, fields: Fields)
 // What stands before Data Size: signature, name, the kept fields.
 fn put_front(buf: &mut [u8], at: usize, name: &[u8], fields: Fields)
     requires { ⌜ (isText (now name) ≡ true) × (at + 24 + length (textBytes (now name)) ≤ length (now buf)) ⌝ }
-    ensures { λ _. ⌜ now (buf .exit) ≡ putIn (now (buf .entry)) at (frontBytes (now (name .entry)) fields) ⌝ }
+    ensures { λ _. ⌜ (now (buf .exit) ≡ putIn (now (buf .entry)) at (frontBytes (now (name .entry)) fields)) × HandedFields fields ⌝ }
 {
     buffer::put_number(buf, at, 4, fields.signature as u64);
     parts::put_text(buf, at + 4, name);
@@ -69,7 +70,7 @@ fn extend(
 {
     let at = site.bytes + 24 + parts::text_size(name);
     let end = at + 10 + head::head_size(site.rules) + s.len();
-    let o = room::room_for(site.rules + 1, end, buf.len());
+    let o = room::room_for(site.rules + 1, end + deck::wide_of(site.version), buf.len());
     let Outcome::Done(_) = o else {
         return o;
     };

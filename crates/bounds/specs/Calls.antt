@@ -45,17 +45,25 @@ givenTo (addWord word) = nothing
 abbrev pub elementNumbers : List Numbers
 elementNumbers = numbers 35 35 most ∷ numbers 38 40 most ∷ numbers 41 42 0 ∷ numbers 43 43 most ∷ numbers 45 45 most ∷ []
 
+-- what a deck is refused for, before other rows: "1, then 2"; document 02, W10: 29
+abbrev pub deckNumbers : List Numbers → List Numbers
+deckNumbers rows = numbers 1 13 60000 ∷ numbers 29 29 60000 ∷ rows
+
 -- "The deck check is a read without tables, so without 14"
 abbrev pub checkNumbers : List Numbers
-checkNumbers = numbers 1 13 60000 ∷ []
+checkNumbers = deckNumbers []
 
 -- "14 last, rule table first"
 abbrev pub readNumbers : List Numbers
-readNumbers = numbers 1 13 60000 ∷ numbers 14 14 1 ∷ []
+readNumbers = deckNumbers (numbers 14 14 1 ∷ [])
 
 -- "A view or fixed fields: the read's refusals without 14, then 16", up to a place
 abbrev pub viewNumbers : ℕ → List Numbers
-viewNumbers last = numbers 1 13 60000 ∷ numbers 16 16 last ∷ []
+viewNumbers last = deckNumbers (numbers 16 16 last ∷ [])
+
+-- document 02, W10, a conversion: the read's refusals, another version by 5 at 3 among them, "a conversion's 19 and 20 last"
+abbrev pub convertNumbers : List Numbers
+convertNumbers = deckNumbers (exactly 19 0 ∷ exactly 20 0 ∷ [])
 
 -- "An identifier alone .. 1, 9 or 10 at 0"
 abbrev pub kindNumbers : List Numbers
@@ -80,15 +88,15 @@ abbrev pub eachExactly : List (Fault × ℕ) → List Numbers → List Numbers
 eachExactly [] rows = rows
 eachExactly ((c, q) ∷ faults) rows = exactly (numberOf c) q ∷ eachExactly faults rows
 
--- "34 to 45 on a second deck", and on an element
+-- "34 to 45 on a second deck", and on an element; document 02, W10: 61 on a second deck
 abbrev pub giftNumbers : Gift → List Numbers
 giftNumbers nothing = []
-giftNumbers (aDeck s) = numbers 34 45 60000 ∷ []
+giftNumbers (aDeck s) = numbers 34 45 60000 ∷ numbers 61 61 60000 ∷ []
 giftNumbers (anElement id s) = elementNumbers
 
--- "An edit: 1, 15, 2 to 13 on its deck", its own, "18, 19, 20", and what is wrong with what it is given
+-- "An edit: 1, 15, 2 to 13 on its deck" and 29, its own, "18, 19, 20", and what is wrong with what it is given
 abbrev pub laterNumbers : Edit → List Numbers
 laterNumbers e = eachExactly (owns e) (giftNumbers (givenTo e))
 
 abbrev pub editNumbers : Edit → List Numbers
-editNumbers e = numbers 1 13 60000 ∷ laterNumbers e
+editNumbers e = deckNumbers (laterNumbers e)

@@ -6,5 +6,6 @@ pub mod Faults
 pub mod Listed
 pub mod Faulty
 pub mod Calls
+pub mod Convert
 pub mod Results
 pub mod Seven

@@ -1,5 +1,5 @@
 -- Every refusal is one of document 01's table, "Numbers a refusal gives": by a number that its call may give, at the place that its row has.
--- Of a place that is a field's (3 and 6 to 13), only that it is at most 60,000.
+-- Of a place that is a field's (3, 6 to 13 and 29), only that it is at most 60,000.
 use Prim.Native.Nat.{ℕ, _+_, _≤_}
 use mathlib.Core.Path.{_≡_}
 use mathlib.Core.Bool.{Bool, true, false, _&&_, _||_}
@@ -57,6 +57,8 @@ Listed Fault.Room q = q ≡ 0
 Listed Fault.Full q = q ≡ 0
 -- 22, no rule, or last element is no word list: 0
 Listed Fault.Last q = q ≡ 0
+-- document 02, W10: "29 for an offset that is not its rule's start, at that offset"
+Listed Fault.Offset q = q ≤ 60000
 
 -- the numbers that a call may give: from one to another at places up to a third, or one at one place
 pub data Numbers : Type 0 where
@@ -68,7 +70,7 @@ allowed [] n q = false
 allowed (numbers low high last ∷ rows) n q = (within low high n && leb q last) || allowed rows n q
 allowed (exactly m o ∷ rows) n q = (eqb n m && eqb q o) || allowed rows n q
 
--- an answer, if it is a refusal, is one of the table: "34 to 45: 2 to 13 plus 32, the same fault", at a place "there"
+-- an answer, if it is a refusal, is one of the table: "34 to 45: 2 to 13 plus 32, the same fault", and so 61, at a place "there"
 abbrev pub Lists : List Numbers → Outcome → Type 0
 Lists rows (Outcome.Done n) = Unit {0}
 Lists rows (Outcome.No c q) = (allowed rows (numberOf c) q ≡ true) × Listed c q

@@ -1,17 +1,17 @@
 -- The deck, and its reading whole: document 01, "The deck" and "Numbers a refusal gives".
-use Prim.Native.Nat.{ℕ}
+use Prim.Native.Nat.{ℕ, _+_, _*_}
 use mathlib.Core.Path.{refl}
 use mathlib.Core.List.{List, [], _∷_}
 use lib.ListN.{length}
-use lib.Dec.{leb}
+use lib.Dec.{leb, eqb}
 use Rattle.format.specs.declared.Fault.{Fault}
 use Rattle.format.specs.declared.Fault.the-variants as Fault
 use Rattle.format.specs.declared.Outcome.{Outcome}
 use Rattle.format.specs.declared.Outcome.the-variants.{Done, No}
 use Rattle.format.specs.Format.{Answer, got, refused, Format, pick, whole}
 use Rattle.format.specs.ReadWrite.{within}
-use Rattle.format.specs.Combinators.{judged, via, seq, _then_, number, count, bytes, each, counted}
-use Rattle.format.specs.Laws.Combinators.{each-long}
+use Rattle.format.specs.Combinators.{pair, judged, via, _then_, number, count, bytes, counted}
+use Rattle.format.specs.Indexed.{indexed}
 use Rattle.format.specs.Row.{total}
 use Rattle.kind.specs.declared.Product.{Product}
 use Rattle.kind.specs.declared.Edition.{Edition}
@@ -29,13 +29,18 @@ mark = 0x52 ∷ 0x44 ∷ 0x4B ∷ []
 abbrev pub ruleCount : Format ℕ
 ruleCount = count 2 0 256
 
--- mark; "version, 1": 2 bytes
+-- mark; version, 1 or 2: 2 bytes
 unfoldable pub version : Format ℕ
-version = bytes mark Fault.Mark then judged (within 1 1) Fault.Version (number 2)
+version = bytes mark Fault.Mark then judged (within 1 2) Fault.Version (number 2)
 
--- number of rules; "the rules, back to back"
-unfoldable pub ruleList : Product → Format (List Rule)
-ruleList p = counted ruleCount (each (rule p) 0) (each-long (rule p) 0)
+-- document 02, W10: "Version 2 has, after the number of rules, one 4-byte offset per rule, counted from the deck's start"; in version 1 an offset has no bytes
+unfoldable pub wide : ℕ → ℕ
+wide v = pick (eqb v 2) 4 0
+
+-- number of rules; their offsets; "the rules, back to back"
+unfoldable pub ruleList : Product → ℕ → Format (List Rule)
+unfolding indexed
+ruleList p v = counted ruleCount (indexed (wide v) 7 Fault.Offset (rule p)) (λ n rs f. f .0)
 
 -- what a deck says
 pub record Deck : Type 0 where
@@ -43,7 +48,7 @@ pub record Deck : Type 0 where
   pub rules : List Rule
 
 unfoldable pub deck : Product → Format Deck
-deck p = via (seq version (ruleList p)) (λ q. record { version = q .0; rules = q .1 }) (λ k. (k .version, k .rules)) (λ q f. refl)
+deck p = via (pair version (ruleList p)) (λ q. record { version = q .0; rules = q .1 }) (λ k. (k .version, k .rules)) (λ q f. refl)
 
 -- "deck over 60,000 bytes": 2; then "left to right", "to the last byte"
 unfoldable pub readAs : Product → List ℕ → Answer Deck
@@ -62,9 +67,9 @@ abbrev pub answered : Answer Deck → Outcome
 answered (got k n) = Done (length (k .rules))
 answered (refused c p) = No c p
 
--- the rules, n of them, start behind the header
+-- the rules, n of them, start behind the offsets
 unfoldable pub baseOf : ℕ → ℕ → ℕ
-baseOf v n = 7
+baseOf v n = 7 + wide v * n
 
 -- a pass over the deck tells its version, where the rules start, their number and that of their elements
 abbrev pub scanned : Answer Deck → Scan

@@ -1,8 +1,9 @@
--- The cases of document 01 that are marked P, as one computed table: decks, identifiers, dates.
+-- The cases of document 01 that are marked P, and of document 02, W10, as one computed table: decks, identifiers, dates.
 use Prim.Native.Nat.{ℕ, _+_, _-_, _*_}
 use mathlib.Core.Path.{_≡_, refl}
 use mathlib.Core.Bool.{Bool, true, false, not, _&&_}
 use mathlib.Core.List.{List, [], _∷_}
+use lib.ListN.{drop}
 use lib.Dec.{T, eqb, leb, eqb→eq, leb→le}
 use lib.Ieee.Bits.{is-true}
 use lib.Ieee.Fits.{and-l, and-r}
@@ -64,6 +65,10 @@ abbrev pub AllAnswer : List (Asked × Told) → Type 0
 AllAnswer [] = Unit {0}
 AllAnswer (c ∷ cs) = Answers (c .0) (c .1) × AllAnswer cs
 
+-- document 01's deck of one rule in a version that has offsets, its rule's offset in the first of four bytes
+abbrev pub sampleIn : ℕ → ℕ → List ℕ
+sampleIn version offset = 0x52 ∷ 0x44 ∷ 0x4B ∷ version ∷ 0x00 ∷ 0x01 ∷ 0x00 ∷ offset ∷ 0x00 ∷ 0x00 ∷ 0x00 ∷ drop 7 sample
+
 abbrev pub noon : ℕ
 noon = 12 * 3600
 
@@ -81,6 +86,18 @@ cases =
     -- the deck above in both editions
     ∷ (deckOf 1 sample, says 10 58)
     ∷ (deckOf 2 sample, says 0 1)
+    -- document 02, W10: an empty deck of version 2; the deck above in it, in both editions
+    ∷ (deckOf 1 (0x52 ∷ 0x44 ∷ 0x4B ∷ 0x02 ∷ 0x00 ∷ 0x00 ∷ 0x00 ∷ []), says 0 0)
+    ∷ (deckOf 2 (0x52 ∷ 0x44 ∷ 0x4B ∷ 0x02 ∷ 0x00 ∷ 0x00 ∷ 0x00 ∷ []), says 0 0)
+    ∷ (deckOf 1 (sampleIn 2 0x0B), says 10 62)
+    ∷ (deckOf 2 (sampleIn 2 0x0B), says 0 1)
+    -- "29 for an offset that is not its rule's start, at that offset"
+    ∷ (deckOf 2 (sampleIn 2 0x0C), says 29 7)
+    ∷ (deckOf 2 (sampleIn 2 0x0A), says 29 7)
+    -- an offset cut: 3 at its start
+    ∷ (deckOf 2 (0x52 ∷ 0x44 ∷ 0x4B ∷ 0x02 ∷ 0x00 ∷ 0x01 ∷ 0x00 ∷ 0x0B ∷ 0x00 ∷ 0x00 ∷ []), says 3 7)
+    -- version 3: 5 at 3
+    ∷ (deckOf 2 (sampleIn 3 0x0B), says 5 3)
     -- F5 in Desk is a condition
     ∷ (identifierOf 1 0xF5, isKind (Simple Condition))
     -- 2F5 and 010000F5 answer 9
@@ -152,4 +169,4 @@ module _ (x : Bool × ℕ) (bits : ℕ) where
 pub cases-hold : AllAnswer cases
 unfolding computingDecks sample day leap monthsDays yearsDays dayOf origin dayIn secondIn
 cases-hold =
-    (refl, (refl, (refl, (refl, (refl, (refl, (refl, (refl, (refl, (refl, (refl, (date-on (plus 2 2) _ 1900 1 1 noon refl tt, (date-on (minus 1 1) _ 1899 12 29 six refl tt, (date-on (minus 0 1) _ 1899 12 30 six refl tt, (date-on (minus 657434 0) _ 100 1 1 0 refl tt, (date-on (plus 2958465 2) _ 9999 12 31 noon refl tt, (date-no (minus 657435 0) _ refl tt, (date-no (plus 2958466 0) _ refl tt, tt))))))))))))))))))
+    (refl, (refl, (refl, (refl, (refl, (refl, (refl, (refl, (refl, (refl, (refl, (refl, (refl, (refl, (refl, (refl, (refl, (refl, (refl, (date-on (plus 2 2) _ 1900 1 1 noon refl tt, (date-on (minus 1 1) _ 1899 12 29 six refl tt, (date-on (minus 0 1) _ 1899 12 30 six refl tt, (date-on (minus 657434 0) _ 100 1 1 0 refl tt, (date-on (plus 2958465 2) _ 9999 12 31 noon refl tt, (date-no (minus 657435 0) _ refl tt, (date-no (plus 2958466 0) _ refl tt, tt))))))))))))))))))))))))))

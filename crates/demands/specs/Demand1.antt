@@ -3,7 +3,7 @@
 -- function without a `requires` is; what follows is said of the promises.
 use Prim.Native.Nat.{ℕ, _+_, _<_}
 use native.Mathlib.Omega.{arith}
-use mathlib.Core.Path.{_≡_, refl, ap, _∙_}
+use mathlib.Core.Path.{_≡_, refl, _∙_}
 use mathlib.Core.Bool.{Bool, true, false}
 use mathlib.Core.List.{List, [], _∷_}
 use lib.Dec.{leb}
@@ -35,12 +35,14 @@ use Rattle.word_view.specs.Word.{wordView}
 use Rattle.fixed.specs.Fixed.{fieldsAnswer}
 use Rattle.plan.specs.Edit.{Edit, Plan, become, refuse, refuseGiven, planned, says, leaves, Edits}
 use Rattle.plan.specs.Handed.{Handed}
+use Rattle.convert.specs.Convert.{otherPlan, Converts}
 use Rattle.start.specs.Start.{startSays, startLeaves}
 use Rattle.start.specs.Laws.Start.{start-none}
 use Rattle.bounds.specs.Listed.{Numbers, exactly, allowed, Lists}
 use Rattle.bounds.specs.Laws.Listed.{allowed-later, within-lists}
-use Rattle.bounds.specs.Calls.{checkNumbers, readNumbers, viewNumbers, editNumbers, kindNumbers, momentNumbers, valueNumbers, putNumbers}
+use Rattle.bounds.specs.Calls.{deckNumbers, checkNumbers, readNumbers, convertNumbers, viewNumbers, editNumbers, kindNumbers, momentNumbers, valueNumbers, putNumbers}
 use Rattle.bounds.specs.Laws.Calls.{check-listed, pass-listed, read-listed, name-listed, word-listed, fixed-listed, edit-listed}
+use Rattle.bounds.specs.Laws.Convert.{convert-listed, back-not-large}
 use Rattle.bounds.specs.Laws.Results.{kind-listed, moment-listed, value-listed, put-listed}
 use Rattle.lent.specs.Lent.{momentWidth, lentSays, lentLeaves, Lends}
 use Rattle.lent_moment.specs.Moment.{LendsMoment}
@@ -51,15 +53,24 @@ use Rattle.rule_deck.specs.Sent.{Hands, HandsMoment}
 pub edits-coincide : (edition n : ℕ) (e : Edit) (d : List ℕ) {r q : Outcome} {x y : List ℕ} → Edits edition n e d r x → Edits edition n e d q y → (r ≡ q) × (x ≡ y)
 edits-coincide edition n e d f g = (one (f .0) (g .0), one (f .1) (g .1))
 
--- a refused edit leaves its buffer as found
-pub edit-as-found : (edition n : ℕ) (e : Edit) (d : List ℕ) {r : Outcome} {x : List ℕ} → Edits edition n e d r x → 0 < codeOf r → x ≡ d
+-- so are those of a conversion
+pub converts-coincide : (edition v u : ℕ) (s d : List ℕ) {r q : Outcome} {x y : List ℕ} → Converts edition v u s d r x → Converts edition v u s d q y → (r ≡ q) × (x ≡ y)
+converts-coincide edition v u s d f g = (one (f .0) (g .0), one (f .1) (g .1))
+
+-- a refused plan leaves the buffer as found
+plan-as-found : (n : ℕ) (d : List ℕ) (q : Plan Deck) → 0 < codeOf (says q) → leaves n d q ≡ d
 unfolding says leaves
-edit-as-found edition n e d {r} {x} f h = f .1 ∙ go (planned edition n d e) (ap codeOf (f .0))
-  where
-    go : (q : Plan Deck) → codeOf r ≡ codeOf (says q) → leaves n d q ≡ d
-    go (become k) w = absurd (omega arith)
-    go (refuse c o) w = refl
-    go (refuseGiven c o) w = refl
+plan-as-found n d (become k) h = absurd (omega arith)
+plan-as-found n d (refuse c o) h = refl
+plan-as-found n d (refuseGiven c o) h = refl
+
+-- so a refused edit does
+pub edit-as-found : (edition n : ℕ) (e : Edit) (d : List ℕ) {r : Outcome} {x : List ℕ} → Edits edition n e d r x → 0 < codeOf r → x ≡ d
+edit-as-found edition n e d f h = f .1 ∙ plan-as-found n d (planned edition n d e) (rw (f .0) at h)
+
+-- and a refused conversion
+pub convert-as-found : (edition v u : ℕ) (s d : List ℕ) {r : Outcome} {x : List ℕ} → Converts edition v u s d r x → 0 < codeOf r → x ≡ d
+convert-as-found edition v u s d f h = f .1 ∙ plan-as-found 0 d (otherPlan edition v u (length d) s) (rw (f .0) at h)
 
 -- a refused read leaves both tables as found
 pub read-as-found : (edition : ℕ) (s rules elements : List ℕ) → 0 < codeOf (readSays (editionOf edition) (length rules) (length elements) s)
@@ -75,7 +86,7 @@ read-as-found edition s rules elements = by (editionOf edition)
     by (Edition.Of p) h = left (readAs p s) (tabled (length rules) (length elements) (readAs p s)) h p
     by Edition.Unknown h = (refl, refl)
 
--- so does a refused value, and a refused start
+-- a refused value, and a refused start, leave the buffer as found
 pub put-as-found : (edition id : ℕ) (v : Value) (buf : List ℕ) → 0 < codeOf (putSays (putting edition id v (length buf))) → putLeaves buf (putting edition id v (length buf)) ≡ buf
 unfolding putSays putLeaves
 put-as-found edition id v buf = go (putting edition id v (length buf))
@@ -89,18 +100,18 @@ start-as-found d = room-judged 0 7 (length d) (λ o. 0 < codeOf o → startLeave
 
 -- ---- "refuses by a number and a place from document 01's table": by the numbers that the call may give, at the places that the table has for them
 
--- the deck check, and a pass: 1 to 13
+-- the deck check, and a pass: 1 to 13, and 29
 pub check-refuses : (edition : ℕ) (s : List ℕ) → Lists checkNumbers (answered (readDeck edition s))
 check-refuses edition s = check-listed edition s
 
 pub pass-refuses : (edition : ℕ) (s : List ℕ) → Lists checkNumbers (scanSays (scanned (readDeck edition s)))
 pass-refuses edition s = pass-listed edition s
 
--- a read: 1 to 14
+-- a read: 1 to 14, and 29
 pub read-refuses : (edition : ℕ) (s rules elements : List ℕ) → Lists readNumbers (readSays (editionOf edition) (length rules) (length elements) s)
 read-refuses edition s rules elements = read-listed edition (length rules) (length elements) s
 
--- views and fixed fields: 1 to 13, and 16, of a word at 0, 1 or 2
+-- views and fixed fields: 1 to 13, 29, and 16, of a word at 0, 1 or 2
 pub name-refuses : (edition k : ℕ) (s : List ℕ) → Lists (viewNumbers 0) (viewSays (nameView edition k s))
 name-refuses edition k s = name-listed edition k s
 
@@ -110,9 +121,16 @@ word-refuses edition k e w s = word-listed edition k e w s
 pub fields-refuse : (edition k : ℕ) (s : List ℕ) → Lists (viewNumbers 0) (fieldsAnswer edition k s .0)
 fields-refuse edition k s = fixed-listed edition k s
 
--- the seven edits: 1 to 13, 15, 18 to 20, and what each judges of its own and of what it is given
+-- the seven edits: 1 to 13, 29, 15, 18 to 20, and what each judges of its own and of what it is given
 pub edit-refuses : (edition n : ℕ) (e : Edit) (d : List ℕ) {r : Outcome} {x : List ℕ} → Handed e → Edits edition n e d r x → Lists (editNumbers e) r
 edit-refuses edition n e d h f = edit-listed edition n e d h f
+
+-- a conversion: 1 to 13, 29, and last 19 and 20; back to version 1 never 19
+pub convert-refuses : (edition v u : ℕ) (s d : List ℕ) {r : Outcome} {x : List ℕ} → Bytes s → Converts edition v u s d r x → Lists convertNumbers r
+convert-refuses edition v u s d b f = rw (f .0) (convert-listed edition v u (length d) s b)
+
+pub back-refuses : (edition v : ℕ) (s d : List ℕ) {r : Outcome} {x : List ℕ} → Bytes s → Converts edition v 1 s d r x → Lists (deckNumbers (exactly 20 0 ∷ [])) r
+back-refuses edition v s d b f = rw (f .0) (back-not-large edition v (length d) s b)
 
 -- "it refuses only with 20"
 pub start-refuses : (cap : ℕ) → Lists (exactly 20 0 ∷ []) (startSays cap)

@@ -1,14 +1,17 @@
 -- Demand 2: what is read, written again, gives the same bytes; what is written reads back as given; an identifier is judged on all 32 bits
--- and by the product. Of tables and views: Tables.antt, Views.antt.
+-- and by the product. Of tables and views: Tables.antt, Views.antt. Document 02, W10: "Demands 2 and 3 read the same" for version 2, and a deck
+-- converted there and back is the same bytes.
 use Prim.Native.Nat.{ℕ, _≤_}
 use native.Mathlib.Omega.{arith}
 use mathlib.Core.Path.{_≡_, refl}
 use mathlib.Core.Bool.{Bool, true, false, _||_}
 use mathlib.Core.List.{List, [], _∷_, _++_}
-use lib.ListN.{length}
+use lib.ListN.{length, take, drop}
 use lib.Dec.{eqb}
 use Rattle.format.specs.declared.Fault.the-variants as Fault
-use Rattle.format.specs.Format.{got, Bytes, pick}
+use Rattle.format.specs.declared.Outcome.{Outcome}
+use Rattle.format.specs.declared.Outcome.the-variants.{Done}
+use Rattle.format.specs.Format.{got, refused, Bytes, pick}
 use Rattle.kind.specs.declared.Product.{Product}
 use Rattle.kind.specs.declared.Product.the-variants.{Desk, Studio}
 use Rattle.kind.specs.declared.Role.the-variants.{Condition, Exception}
@@ -17,15 +20,56 @@ use Rattle.kind.specs.declared.Kind.the-variants.{Simple}
 use Rattle.kind.specs.declared.Row.the-variants.{Is, No}
 use Rattle.kind.specs.Kinds.{kinds, has, inProduct, identifiers, rowIn, offered, rowOf}
 use Rattle.element.specs.Element.{isRow}
-use Rattle.deck.specs.Deck.{Deck, deck, readAs}
+use Rattle.deck.specs.Deck.{Deck, version, deck, readAs}
 use Rattle.deck.specs.Laws.Deck.{read-writes-back, written-reads-back}
+use Rattle.convert.specs.Convert.{readOnly, Converts, Converted}
+use Rattle.convert.specs.Laws.Back.{only-refuses, only-same, only-takes, only-other-deck, converted, past-kept, there-and-back, version-fits, up-and-down, down-and-up}
 
--- both ways, in both editions
+-- both ways, in both editions and of either version, which a deck's value has
 pub written-then-read : (p : Product) (k : Deck) → deck p .Fit k → length (deck p .write k) ≤ 60000 → readAs p (deck p .write k) ≡ got k (length (deck p .write k))
 written-then-read = written-reads-back
 
 pub read-then-written : (p : Product) (s : List ℕ) (k : Deck) (n : ℕ) → Bytes s → readAs p s ≡ got k n → s ≡ deck p .write k
 read-then-written p s k n b e = read-writes-back p s k n b e .is
+
+-- ---- document 02, W10: "Convert 1 to 2 and 2 to 1". s was converted from version v to u, into the first m bytes of the buffer d, which became d′
+module _ (edition v u : ℕ) (s d : List ℕ) {m : ℕ} {d′ : List ℕ} (bs : Bytes s) (l : 1 ≤ u) (h : u ≤ 2) (c : Converts edition v u s d (Done m) d′) where
+  -- s was a deck of version v, and d′ has that of the same rules in version u
+  pub rules-kept : Converted edition v u s m d′
+  rules-kept = converted edition v u s d c bs (version-fits u l h)
+
+  -- bytes past it are as they were
+  pub rest-kept : drop m d′ ≡ drop m d
+  rest-kept = past-kept edition v u s d c
+
+  -- "there and back gives the same bytes, each way": into any buffer e that has room for s
+  pub same-bytes : (e : List ℕ) {r : Outcome} {e′ : List ℕ} → Converts edition u v (take m d′) e r e′ → length s ≤ length e → (r ≡ Done (length s)) × (take (length s) e′ ≡ s)
+  same-bytes e b o = there-and-back edition v u s d e bs (version-fits u l h) c b o
+
+module _ (edition : ℕ) (s d e : List ℕ) {m : ℕ} {d′ e′ : List ℕ} {r : Outcome} (bs : Bytes s) where
+  pub from-one-and-back : Converts edition 1 2 s d (Done m) d′ → Converts edition 2 1 (take m d′) e r e′ → length s ≤ length e → (r ≡ Done (length s)) × (take (length s) e′ ≡ s)
+  from-one-and-back = up-and-down edition s d e bs
+
+  pub from-two-and-back : Converts edition 2 1 s d (Done m) d′ → Converts edition 1 2 (take m d′) e r e′ → length s ≤ length e → (r ≡ Done (length s)) × (take (length s) e′ ≡ s)
+  from-two-and-back = down-and-up edition s d e bs
+
+-- "A reader of the first release answers 5 to version 2": it takes version 1 alone
+module _ (p : Product) (s : List ℕ) where
+  -- at 3, where the version stands, whatever follows
+  pub first-release-refuses : {n : ℕ} → length s ≤ 60000 → version .read s ≡ got 2 n → readOnly p 1 s ≡ refused Fault.Version 3
+  first-release-refuses l e = only-refuses p 1 s l e (λ z. omega arith)
+
+  -- to version 1 it answers what the reading of both does
+  pub first-release-same : {n : ℕ} → version .read s ≡ got 1 n → readOnly p 1 s ≡ readAs p s
+  first-release-same e = only-same p 1 s e refl
+
+  -- so it takes the decks of version 1, and of version 2 none
+  module _ {k : Deck} {n : ℕ} (e : readAs p s ≡ got k n) where
+    pub first-release-takes : k .version ≡ 1 → readOnly p 1 s ≡ got k n
+    first-release-takes = only-takes p 1 s e
+
+    pub first-release-lacks : k .version ≡ 2 → readOnly p 1 s ≡ refused Fault.Version 3
+    first-release-lacks h = only-other-deck p 1 s e (λ z. omega arith)
 
 -- ---- the identifier: accepted by a product exactly when it is among that product's identifiers, whatever number it is
 has-append : (xs ys : List ℕ) (id : ℕ) → has (xs ++ ys) id ≡ has xs id || has ys id

@@ -1,5 +1,5 @@
 -- Demand 3: from an accepted deck, after any run of edits, the buffer holds the deck that would be written afresh from the edited list of
--- rules. Bytes past the longest deck length so far are never touched.
+-- rules. Bytes past the longest deck length so far are never touched. Document 02, W10: the deck is of either version, and keeps it.
 use Prim.Native.Nat.{ℕ, _+_, _≤_}
 use native.Mathlib.Omega.{arith}
 use mathlib.Core.Path.{_≡_, refl, ap, ap₂, _∙_}
@@ -20,10 +20,10 @@ use Rattle.deck.specs.Deck.{Deck, readAs}
 use Rattle.deck.specs.Written.{deckOf}
 use Rattle.plan.specs.Edit.{Edit, planned, says, Edits}
 use Rattle.start.specs.Start.{startSays, startLeaves}
-use Rattle.runs.specs.Run.{Buffer, Call, Promise, Ran, Steps, step, lengthFrom, Called, runRules}
-use Rattle.runs.specs.Laws.Run.{edit-step, called}
+use Rattle.runs.specs.Run.{Buffer, Call, Promise, Ran, Steps, step, lengthFrom, Called, Rules, runRules}
+use Rattle.runs.specs.Laws.Run.{edit-step, called, kept-version as keeps}
 use Rattle.runs.specs.Left.{Left, calls, runIn}
-use Rattle.runs.specs.Laws.Left.{at-accepted, at-start, left-by, left-in}
+use Rattle.runs.specs.Laws.Left.{at-accepted, at-start, left-by, left-in, kept-in-one}
 use Rattle.rule_deck.specs.Sent.{Sends, lengthSent}
 
 -- ---- whatever an edit of the library promises is a step of a run: the buffer that it leaves, and the length that it answers or, refused, the old one
@@ -51,7 +51,7 @@ module _ {A : Type 0} {P : Promise A} {next : ℕ → A → ℕ} (is : Steps P n
       → Ran P next cs (d, n) b → Left Studio d (runRules (length d) cs (k, n)) b
   after-any-run p n m k cs bs l r h = left-by is cs (at-accepted p d n m k bs l r) h
 
-  -- an accepted start of an empty deck begins a run
+  -- an accepted start of an empty deck, of version 1, begins a run
   pub after-a-start : (cs : List Call) → codeOf (startSays (length d)) ≡ 0 → Ran P next cs (startLeaves d, placeOf (startSays (length d))) b → Left Studio d (runRules (length d) cs (deckOf 1 [], 7)) b
   after-a-start cs e h = left-by is cs (at-start Studio d e) h
 
@@ -71,3 +71,10 @@ after-any-edits d = after-any-run called d
 pub after-any-sends : (d : List ℕ) {b : Buffer} (p : Product) (n m : ℕ) (k : Deck) (cs : List Call) → Bytes d → n ≤ length d → readAs p (take n d) ≡ got k m
     → Ran Sends lengthSent cs (d, n) b → Left Studio d (runRules (length d) cs (k, n)) b
 after-any-sends d = after-any-run sends-step d
+
+-- ---- the version of the deck that there was is that of the deck that is left: "All edits and readers work on both"
+pub kept-version : (cap : ℕ) (cs : List Call) (l : Rules) → runRules cap cs l .0 .version ≡ l .0 .version
+kept-version = keeps
+
+pub kept-in-one-edition : (p : Product) (cap : ℕ) (es : List Edit) (l : Rules) → runIn p cap es l .0 .version ≡ l .0 .version
+kept-in-one-edition = kept-in-one

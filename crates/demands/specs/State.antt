@@ -4,13 +4,15 @@ use Prim.Native.Nat.{ℕ, _+_, _-_, _*_, _≤_, _<_}
 use native.Mathlib.Omega.{arith}
 use mathlib.Core.Path.{_≡_, refl, sym, ap, _∙_}
 use mathlib.Core.Bool.{Bool}
-use mathlib.Core.List.{List, _∷_, _++_}
+use mathlib.Core.List.{List, _∷_, _++_, append-assoc}
 use lib.ListN.{length, take, drop, length-drop, take-append-drop}
+use lib.Seq.{drop-at}
 use borrow.Author.Tests.{le-leb}
 use Rattle.format.specs.declared.Outcome.the-variants.{Done}
 use Rattle.format.specs.Format.{Bytes, got, pick}
-use Rattle.format.specs.ReadWrite.{spelt, bit}
-use Rattle.format.specs.Combinators.{number}
+use Rattle.format.specs.ReadWrite.{spelt, value, bit}
+use Rattle.format.specs.Laws.ReadWrite.{length-spelt}
+use Rattle.format.specs.Combinators.{pair, seq, _then_, judged, via, number}
 use Rattle.format.specs.Row.{total}
 use Rattle.kind.specs.declared.Product.{Product}
 use Rattle.kind.specs.declared.Edition.the-variants as Edition
@@ -19,8 +21,9 @@ use Rattle.element.specs.Element.{Element, dataBy}
 use Rattle.rule.specs.Rule.{Rule, elementsIn}
 use Rattle.rule.specs.Places.{enabledAt}
 use Rattle.rule.specs.Laws.Places.{rule-parts}
-use Rattle.deck.specs.Deck.{readAs}
+use Rattle.deck.specs.Deck.{mark, version, deck, readAs}
 use Rattle.deck.specs.Written.{deckOf, startOf}
+use Rattle.deck.specs.Laws.Written.{rules as allRules, opening, index, lead, written-is}
 use Rattle.fill.specs.Rows.{ruleWidth, elementWidth}
 use Rattle.tables.specs.Tables.{readSays, rulesAfter, elementsAfter}
 use Rattle.buffer.specs.Laid.{putIn}
@@ -33,11 +36,22 @@ use Rattle.switch.specs.Laws.Switch.{switch-done}
 use Rattle.asked.specs.Asked.{asked}
 use Rattle.fixed.specs.declared.Fielded.the-variants.{Is}
 use Rattle.fixed.specs.Fixed.{fixedOf, fixedFields}
-use Rattle.line.specs.Line.{ruleLine, elementLine}
-use Rattle.listed.specs.Listed.{ruleListed, elementListed}
-use Rattle.listed.specs.Laws.Listed.{rule-listed-as, element-listed-as}
+use Rattle.line.specs.Line.{deckLine, ruleLine, elementLine}
+use Rattle.listed.specs.Listed.{deckListed, ruleListed, elementListed}
+use Rattle.listed.specs.Laws.Listed.{deck-listed-as, rule-listed-as, element-listed-as}
 use Rattle.demands.specs.Laws.Places.{rule-stands}
 use Rattle.demands.specs.Tables.{rule-has-row, element-has-row}
+
+-- ---- the deck s was read as the rules rs in version v: its line has that version, "version, bytes"
+pub deck-is-listed : (p : Product) (v : ℕ) (s : List ℕ) (rs : List Rule) (n : ℕ) → Bytes s → readAs p s ≡ got (deckOf v rs) n → deckListed s ≡ deckLine v (length s)
+unfolding lead opening deck version _then_ seq via pair judged number
+deck-is-listed p v s rs n bs e =
+    let o = sound-read p s (deckOf v rs) n bs e in
+    let m = spelt 3 (value mark) in
+    let t = spelt 2 (length rs) ++ (index v rs ++ allRules 0 rs) in
+    let whole : s ≡ m ++ (spelt 2 v ++ t) = o .is ∙ written-is v rs ∙ simp append-assoc in
+    let behind : drop 3 s ≡ spelt 2 v ++ t = ap (drop 3) whole ∙ drop-at m (spelt 2 v ++ t) 3 (length-spelt 3 (value mark)) in
+    deck-listed-as s v (ap (number 2 .read) behind ∙ number 2 .back v t (o .fit .0 .0 .0 .1 .0))
 
 -- ---- the deck s was read as the rules rs in version v, and r is rule k of them
 module _ (edition : ℕ) (p : Product) (ed : editionOf edition ≡ Edition.Of p) (v : ℕ) (s : List ℕ) (rs : List Rule) (n : ℕ) (bs : Bytes s) (e : readAs p s ≡ got (deckOf v rs) n) (k : ℕ) {r : Rule} {later : List Rule} (is-r : drop k rs ≡ r ∷ later) where

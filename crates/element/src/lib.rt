@@ -7,8 +7,8 @@ ghost use Rattle.format.specs.Laws.Seen.{seen, none};
 ghost use Rattle.text.specs.Text.{word};
 ghost use Rattle.element.specs.Data.{oneZero, markerData, wordData, sizeData, limit, dateData, dataOf};
 
-// 1, 0: the two words that most data begin with.
-fn one_zero_at(s: &[u8], at: usize) -> Read
+// 1, 0, the two words that most data begin with, one after the other.
+fn one_then_zero_at(s: &[u8], at: usize) -> Read
     ensures { λ r. ⌜ r ≡ seen none oneZero (now (s .entry)) at ⌝ }
 {
     let a = field::fixed32_at(s, at, 1);
@@ -16,6 +16,20 @@ fn one_zero_at(s: &[u8], at: usize) -> Read
         return a;
     };
     field::fixed32_at(s, p, 0)
+}
+
+// The same, both at once where they are right.
+fn one_zero_at(s: &[u8], at: usize) -> Read
+    ensures { λ r. ⌜ r ≡ seen none oneZero (now (s .entry)) at ⌝ }
+{
+    let w = wire::u64_at(s, at);
+    let Read::Got(p, x) = w else {
+        return one_then_zero_at(s, at);
+    };
+    if x != 1 {
+        return one_then_zero_at(s, at);
+    }
+    Read::Got(p, 0)
 }
 
 fn marker_at(s: &[u8], at: usize) -> Read

@@ -61,10 +61,10 @@ fn kept_at(s: &[u8], at: usize, signature: u64) -> Fielded
 }
 
 // The fixed fields of rule k of a sound deck, whose rules start at base.
-fn fields_at(s: &[u8], base: usize, k: u64) -> Fielded
-    ensures { λ v. ⌜ Tells (now (s .entry)) base k fixedAt v ⌝ }
+fn fields_at(s: &[u8], version: u64, base: usize, k: u64) -> Fielded
+    ensures { λ v. ⌜ Tells version (now (s .entry)) base k fixedAt v ⌝ }
 {
-    let r = steps::start_of(s, base, k);
+    let r = steps::rule_start(s, version, base, k);
     let Read::Got(at, _) = r else {
         return no_fields(format::end_says(r));
     };
@@ -84,11 +84,11 @@ pub fn fixed(edition: u64, s: &[u8], k: u64) -> Fielded
     ensures { λ v. ⌜ (v ≡ fixedFields edition k (now (s .entry))) × (fieldsSay v ≡ fieldsAnswer edition k (now (s .entry))) ⌝ }
 {
     let c = deck::pass(edition, s);
-    let Scan::Is(_, base, n, _) = c else {
+    let Scan::Is(version, base, n, _) = c else {
         return no_fields(scan::scan_says(c));
     };
     if n <= k {
         return Fielded::No(Fault::Absent, 0);
     }
-    fields_at(s, base, k)
+    fields_at(s, version, base, k)
 }

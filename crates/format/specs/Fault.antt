@@ -2,7 +2,7 @@
 use Prim.Native.Nat.{ℕ, _+_, _*_}
 use mathlib.Core.List.{List}
 use Rattle.format.specs.declared.Fault.{Fault}
-use Rattle.format.specs.declared.Fault.the-variants.{Edition, Long, Cut, Mark, Version, Count, Form, Field, Unknown, Foreign, Date, Size, Over, Table, Stated, Absent, Text, Rules, Large, Room, Full, Last}
+use Rattle.format.specs.declared.Fault.the-variants.{Edition, Long, Cut, Mark, Version, Count, Form, Field, Unknown, Foreign, Date, Size, Over, Table, Stated, Absent, Text, Rules, Large, Room, Full, Last, Offset}
 use Rattle.format.specs.declared.Outcome.{Outcome}
 use Rattle.format.specs.declared.Outcome.the-variants.{Done, No, Given}
 
@@ -51,6 +51,8 @@ numberOf Room = 20
 numberOf Full = 21
 -- no rule, or last element is no word list
 numberOf Last = 22
+-- an offset that is not its rule's start: document 02, W10
+numberOf Offset = 29
 
 -- the number and the place that an outcome gives: "0 accepted", and "34 to 45: 2 to 13 plus 32"
 abbrev pub codeOf : Outcome → ℕ

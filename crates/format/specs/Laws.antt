@@ -4,8 +4,11 @@ pub mod ReadWrite
 pub mod Combinators
 pub mod Seen
 pub mod Rows
+pub mod Index
+pub mod Indexed
 pub mod Written
 pub mod Parts
 pub mod Sizes
+pub mod Fours
 pub mod Back
 pub mod Skip

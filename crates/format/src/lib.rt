@@ -1,7 +1,7 @@
 // Answers: a value or a fault, and their numbers.
 ghost use mathlib.Core.Path.{_≡_};
 ghost use Rattle.format.specs.Fault.{numberOf};
-ghost use Rattle.format.specs.Laws.Fault.{endSays, noRead, inGiven};
+ghost use Rattle.format.specs.Laws.Fault.{rowNumber, endSays, noRead, inGiven};
 ghost use Rattle.format.specs.Laws.Seen.{toldNothing};
 
 // The rows of document 01's table "Numbers a refusal gives"; specs/Fault.antt has their numbers.
@@ -28,6 +28,7 @@ pub enum Fault {
     Room,
     Full,
     Last,
+    Offset,
 }
 
 // The place past a value, and the value; or the place of a fault, and the fault.
@@ -44,9 +45,9 @@ pub enum Outcome {
     Given(Fault, usize),
 }
 
-// The number of a fault.
-pub fn number_of(fault: Fault) -> u64
-    ensures { λ r. ⌜ r ≡ numberOf fault ⌝ }
+// The row of a fault in the table of numbers, from 1.
+fn row_of(fault: Fault) -> u64
+    ensures { λ r. ⌜ rowNumber r ≡ numberOf fault ⌝ }
 {
     match fault {
         Fault::Edition => 1,
@@ -71,7 +72,19 @@ pub fn number_of(fault: Fault) -> u64
         Fault::Room => 20,
         Fault::Full => 21,
         Fault::Last => 22,
+        Fault::Offset => 23,
     }
+}
+
+// The number of a fault.
+pub fn number_of(fault: Fault) -> u64
+    ensures { λ r. ⌜ r ≡ numberOf fault ⌝ }
+{
+    let n = row_of(fault);
+    if 22 < n {
+        return 29;
+    }
+    n
 }
 
 // What was read, with nothing told of it but its end.

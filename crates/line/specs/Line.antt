@@ -19,8 +19,8 @@ abbrev pub newline : List ℕ
 newline = 0x0A ∷ []
 
 -- `DECK 1 70`: "version, bytes"
-unfoldable pub deckLine : ℕ → List ℕ
-deckLine bytes = (0x44 ∷ 0x45 ∷ 0x43 ∷ 0x4B ∷ []) ++ (spaced (decimal 1) ++ (spaced (decimal bytes) ++ newline))
+unfoldable pub deckLine : ℕ → ℕ → List ℕ
+deckLine version bytes = (0x44 ∷ 0x45 ∷ 0x43 ∷ 0x4B ∷ []) ++ (spaced (decimal version) ++ (spaced (decimal bytes) ++ newline))
 
 -- `RULE 0 ON 1 1`: "rule, state ON or OFF, name units, elements"
 unfoldable pub ruleLine : ℕ → Bool → ℕ → ℕ → List ℕ

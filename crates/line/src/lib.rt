@@ -56,10 +56,10 @@ fn numbers(line: &mut [u8; 96], word: &[u8], m: u64, n: u64) -> usize
     add(line, c, b"\n")
 }
 
-pub fn deck(line: &mut [u8; 96], bytes: u64) -> usize
-    ensures { λ r. ⌜ Lined (now (line .entry)) (deckLine bytes) r (now (line .exit)) ⌝ }
+pub fn deck(line: &mut [u8; 96], version: u64, bytes: u64) -> usize
+    ensures { λ r. ⌜ Lined (now (line .entry)) (deckLine version bytes) r (now (line .exit)) ⌝ }
 {
-    numbers(line, b"DECK", 1, bytes)
+    numbers(line, b"DECK", version, bytes)
 }
 
 pub fn rule(line: &mut [u8; 96], k: u64, on: bool, units: u64, elements: u64) -> usize

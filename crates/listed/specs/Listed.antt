@@ -1,16 +1,25 @@
--- The lines of a rule and of an element, from their rows of the tables and the deck's bytes: document 01, "One deck whole".
+-- The lines of a deck, from its bytes, and of a rule and an element, from their rows of the tables too: document 01, "One deck whole".
 use Prim.Native.Nat.{ℕ, _-_, _/_}
 use mathlib.Core.Bool.{Bool, false}
 use mathlib.Core.List.{List}
 use lib.Dec.{eqb}
-use lib.ListN.{getD, drop}
+use lib.ListN.{length, getD, drop}
 use Rattle.format.specs.Format.{Answer, got, refused}
 use Rattle.format.specs.Combinators.{number}
-use Rattle.line.specs.Line.{ruleLine, elementLine}
+use Rattle.line.specs.Line.{deckLine, ruleLine, elementLine}
 
 -- number j of a row
 abbrev pub entry : List ℕ → ℕ → ℕ
 entry row j = getD row j 0
+
+-- a version as it was read
+abbrev pub versionIn : Answer ℕ → ℕ
+versionIn (got version n) = version
+versionIn (refused c q) = 0
+
+-- a deck, "version, bytes": the version stands behind the mark
+unfoldable pub deckListed : List ℕ → List ℕ
+deckListed s = deckLine (versionIn (number 2 .read (drop 3 s))) (length s)
 
 -- "state ON or OFF", of Enabled as it was read
 abbrev pub isOn : Answer ℕ → Bool

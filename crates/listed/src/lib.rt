@@ -1,11 +1,11 @@
-// The line of a rule, and of an element, from its row of the tables and the deck's bytes: document 01, "One deck whole".
+// The line of a deck, from its bytes, and of a rule and an element, from its row of the tables too: document 01, "One deck whole".
 use format::Read;
 ghost use mathlib.Core.Path.{_≡_};
 ghost use Prim.Native.Nat.{_-_, _/_};
 ghost use lib.ListN.{drop};
 ghost use Rattle.format.specs.Combinators.{number};
 ghost use Rattle.line.specs.Line.{Lined};
-ghost use Rattle.listed.specs.Listed.{entry as Listed·entry, isOn, ruleListed, elementListed};
+ghost use Rattle.listed.specs.Listed.{entry as Listed·entry, versionIn, deckListed, isOn, ruleListed, elementListed};
 
 // Number j of a row; 0 past its end.
 pub fn entry(row: &[u32], j: usize) -> u32
@@ -15,6 +15,25 @@ pub fn entry(row: &[u32], j: usize) -> u32
         return 0;
     }
     row[j]
+}
+
+// The version that stands behind the mark; 0 where there is none.
+fn version_of(s: &[u8]) -> u64
+    ensures { λ r. ⌜ r ≡ versionIn (number 2 .read (drop 3 (now (s .entry)))) ⌝ }
+{
+    let r = wire::u16_at(s, 3);
+    match r {
+        Read::Got(_, version) => version,
+        Read::No(_, _) => 0,
+    }
+}
+
+// A deck, by its bytes.
+pub fn deck_line(line: &mut [u8; 96], s: &[u8]) -> usize
+    ensures { λ r. ⌜ Lined (now (line .entry)) (deckListed (now (s .entry))) r (now (line .exit)) ⌝ }
+{
+    let version = version_of(s);
+    line::deck(line, version, s.len() as u64)
 }
 
 // Whether the Enabled at a place is on.

@@ -65,7 +65,7 @@ fn list_rules(s: &[u8], count: usize, rules: &[u32], elements: &[u32]) -> usize 
 
 fn list(s: &[u8], count: usize, rules: &[u32], elements: &[u32]) {
     let mut text = [0u8; 96];
-    let n = line::deck(&mut text, s.len() as u64);
+    let n = listed::deck_line(&mut text, s);
     print(&text, n);
     let all = list_rules(s, count, rules, elements);
     let n = line::end(&mut text, count as u64, all as u64);

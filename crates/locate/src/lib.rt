@@ -1,4 +1,4 @@
-// Where a rule of a deck stands: the deck is judged by one pass, and the rules before it are stepped over.
+// Where a rule of a deck stands: the deck is judged by one pass, then its start is found.
 use format::Read;
 use scan::Scan;
 use spot::Site;
@@ -22,7 +22,7 @@ fn spot_of(s: &[u8], version: u64, base: usize, n: u64, k: u64) -> Spot
             end: s.len(),
         });
     }
-    let f = steps::start_of(s, base, k);
+    let f = steps::rule_start(s, version, base, k);
     let Read::Got(start, _) = f else {
         return spot::no_spot(format::end_says(f));
     };

@@ -13,10 +13,10 @@ ghost use Rattle.view.specs.View.{PartOf, viewSays};
 ghost use Rattle.name_view.specs.Name.{nameAt, nameView};
 
 // The name of rule k of a sound deck, whose rules start at base.
-fn name_at(s: &[u8], base: usize, k: u64) -> View
-    ensures { λ v. ⌜ Tells (now (s .entry)) base k nameAt v × Inside v (length (now (s .entry))) ⌝ }
+fn name_at(s: &[u8], version: u64, base: usize, k: u64) -> View
+    ensures { λ v. ⌜ Tells version (now (s .entry)) base k nameAt v × Inside v (length (now (s .entry))) ⌝ }
 {
-    let r = steps::start_of(s, base, k);
+    let r = steps::rule_start(s, version, base, k);
     let Read::Got(at, _) = r else {
         return view::no_view(format::end_says(r));
     };
@@ -32,13 +32,13 @@ pub fn find_name(edition: u64, s: &[u8], k: u64) -> View
     ensures { λ v. ⌜ (v ≡ nameView edition k (now (s .entry))) × Inside v (length (now (s .entry))) ⌝ }
 {
     let c = deck::pass(edition, s);
-    let Scan::Is(_, base, n, _) = c else {
+    let Scan::Is(version, base, n, _) = c else {
         return view::no_view(scan::scan_says(c));
     };
     if n <= k {
         return View::No(Fault::Absent, 0);
     }
-    name_at(s, base, k)
+    name_at(s, version, base, k)
 }
 
 // The name of rule k as a part of the deck's bytes.

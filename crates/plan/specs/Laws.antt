@@ -1,3 +1,6 @@
+pub mod Fits
+pub mod Given
+pub mod Kept
 pub mod Handed
 pub mod Found
 pub mod Makes

@@ -1,4 +1,4 @@
-// What every edit begins with, its deck found in its buffer; and what it ends with where the number of rules has changed.
+// What every edit begins with, its deck found in its buffer; and what it ends with where rules start elsewhere.
 use format::Fault;
 use kind::Edition;
 use spot::Site;
@@ -6,7 +6,7 @@ use spot::Spot;
 ghost use mathlib.Core.Path.{_≡_};
 ghost use Rattle.locate.specs.Laws.Located.{lastOf};
 ghost use Rattle.plan.specs.Laws.Found.{found};
-ghost use Rattle.plan.specs.Laws.Finish.{Finishes};
+ghost use Rattle.plan.specs.Laws.Finish.{Reindexes, Finishes};
 
 // The deck in the first n bytes of a buffer, and where its rule k stands: 1, 15, 2 to 13.
 pub fn find(edition: u64, buf: &[u8], n: usize, k: u64) -> Spot
@@ -38,10 +38,50 @@ pub fn find_last(edition: u64, buf: &[u8], n: usize) -> Spot
     locate::last(edition, deck)
 }
 
+// In version 2 the offsets, which end at base, give way to those of the rules that stand there, so many, to n.
+fn reindex(buf: &mut [u8], base: usize, number: u64, n: usize) -> usize
+    ensures { λ r. ⌜ Reindexes base number n (now (buf .entry)) r (now (buf .exit)) ⌝ }
+{
+    if 256 < number {
+        return n;
+    }
+    if base < 7 {
+        return n;
+    }
+    if n < base {
+        return n;
+    }
+    if buf.len() < n {
+        return n;
+    }
+    let room = 4 * (number as usize);
+    let left = n - (base - 7);
+    if buf.len() - left < room {
+        return n;
+    }
+    gap::open(buf, n, 7, base, room);
+    buffer::put_number(buf, 5, 2, number);
+    offsets::put_offsets(buf, number);
+    left + room
+}
+
 // The rules of the edited list, so many, stand to n behind what stood before those that were found; the length of their deck.
 pub fn finish(buf: &mut [u8], f: Site, rules: u64, n: usize) -> usize
     ensures { λ r. ⌜ Finishes f rules n (now (buf .entry)) r (now (buf .exit)) ⌝ }
 {
+    if f.version == 2 {
+        return reindex(buf, f.base, rules, n);
+    }
     buffer::put_number(buf, 5, 2, rules);
+    n
+}
+
+// The same where as many rules stand there as were found.
+pub fn refresh(buf: &mut [u8], f: Site, n: usize) -> usize
+    ensures { λ r. ⌜ Finishes f (f .rules) n (now (buf .entry)) r (now (buf .exit)) ⌝ }
+{
+    if f.version == 2 {
+        return reindex(buf, f.base, f.rules, n);
+    }
     n
 }

@@ -5,6 +5,7 @@ use format::Read;
 use spot::Site;
 use spot::Spot;
 ghost use mathlib.Core.Path.{_≡_};
+ghost use mathlib.Core.Bool.{true, false};
 ghost use Prim.Native.Nat.{ℕ, _+_, _-_, _^_, _≤_, _<_};
 ghost use Rattle.steps.specs.Laws.Steps.{nameEnd};
 ghost use Rattle.plan.specs.Edit.{remove, Edits};
@@ -47,6 +48,16 @@ fn remove_first(buf: &mut [u8], f: Site, e: usize) -> Outcome
     Outcome::Done(n)
 }
 
+// Whether no other rule becomes the first where rule k of so many goes.
+fn keeps_first(k: u64, rules: u64) -> bool
+    ensures { λ r. ⌜ (r ≡ true → k ≡ 0 → rules ≡ 1) × (r ≡ false → (k ≡ 0) × (rules ≡ 1 → ⊥)) ⌝ }
+{
+    if 0 < k {
+        return true;
+    }
+    rules == 1
+}
+
 // Rule k is removed.
 pub fn remove(edition: u64, buf: &mut [u8], n: usize, k: u64) -> Outcome
     ensures { λ r. ⌜ Edits edition n (remove k) (now (buf .entry)) r (now (buf .exit)) ⌝ }
@@ -58,10 +69,7 @@ pub fn remove(edition: u64, buf: &mut [u8], n: usize, k: u64) -> Outcome
     if site.rules <= k {
         return Outcome::No(Fault::Absent, 0);
     }
-    if 0 < k {
-        return remove_other(buf, site);
-    }
-    if site.rules == 1 {
+    if keeps_first(k, site.rules) {
         return remove_other(buf, site);
     }
     let t = steps::name_end(buf, site.end);

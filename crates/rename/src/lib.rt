@@ -21,13 +21,14 @@ fn rename_at(buf: &mut [u8], f: Site, e: usize, name: &[u8]) -> Outcome
     }
     let len = parts::text_size(name);
     let at = f.start + 4;
-    let new = f.bytes - (e - at) + len;
-    let o = room::room_for(f.rules, new, buf.len());
+    let n = f.bytes - (e - at) + len;
+    let o = room::room_for(f.rules, n, buf.len());
     let Outcome::Done(_) = o else {
         return o;
     };
     gap::open(buf, f.bytes, at, e, len);
     parts::put_text(buf, at, name);
+    plan::refresh(buf, f, n);
     o
 }
 

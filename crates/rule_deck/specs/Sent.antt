@@ -13,6 +13,7 @@ use Rattle.lent.specs.Lent.{lentSays, lentLeaves, momentWidth}
 use Rattle.rule.specs.declared.Fields.{Fields}
 use Rattle.plan.specs.Edit.{Edit, planned, says, leaves}
 use Rattle.plan.specs.Handed.{Handed}
+use Rattle.convert.specs.Convert.{otherPlan}
 
 -- the promise of every call with a table for its result: the library's own, packed
 abbrev pub Hands : ℕ → List ℕ → Said → ℕ → List ℕ → Type 0
@@ -28,6 +29,10 @@ fieldsOf signature on unknown2 unknown3 unknown4 unknown5 = record { signature =
 -- the promise of every edit: the library's own, packed; and it was handed over as bytes and numbers of 32 bits
 abbrev pub Sends : ℕ → ℕ → Edit → List ℕ → ℕ → List ℕ → Type 0
 Sends edition n e d r d′ = Handed e × ((r ≡ packed (says (planned edition n d e))) × (d′ ≡ leaves n d (planned edition n d e)))
+
+-- the promise of a conversion: the library's own, packed
+abbrev pub SendsOther : ℕ → ℕ → ℕ → List ℕ → List ℕ → ℕ → List ℕ → Type 0
+SendsOther edition v u s d r d′ = (r ≡ packed (says (otherPlan edition v u (length d) s))) × (d′ ≡ leaves 0 d (otherPlan edition v u (length d) s))
 
 -- the length to go on with: its place where its code is 0, after a refusal the old one
 abbrev pub lengthSent : ℕ → ℕ → ℕ

@@ -17,7 +17,7 @@ ghost use Rattle.lent.specs.Lent.{kindWidth, fieldsWidth, partWidth, valueWidth
 ghost use Rattle.put_table.specs.Table.{valueFrom};
 ghost use Rattle.plan.specs.Edit.{switch, rename, remove, insert, addRule, addElement, addWord};
 ghost use Rattle.start.specs.Start.{startSays, startLeaves};
-ghost use Rattle.rule_deck.specs.Sent.{Hands, HandsMoment, Sends, fieldsOf};
+ghost use Rattle.rule_deck.specs.Sent.{Hands, HandsMoment, Sends, SendsOther, fieldsOf};
 
 // The version of this library.
 #[no_mangle]
@@ -242,4 +242,20 @@ pub extern "C" fn rule_deck_add_word(edition: u64, buf: &mut [u8], stated: u64, 
     ensures { λ r. ⌜ Sends edition stated (addWord (now (word .entry))) (now (buf .entry)) r (now (buf .exit)) ⌝ }
 {
     packed::pack(word::add_word(edition, buf, stated as usize, word))
+}
+
+// A deck of version 1 as one of version 2.
+#[no_mangle]
+pub extern "C" fn rule_deck_to_2(edition: u64, deck: &[u8], buf: &mut [u8]) -> u64
+    ensures { λ r. ⌜ SendsOther edition 1 2 (now (deck .entry)) (now (buf .entry)) r (now (buf .exit)) ⌝ }
+{
+    packed::pack(convert::to_2(edition, deck, buf))
+}
+
+// A deck of version 2 as one of version 1.
+#[no_mangle]
+pub extern "C" fn rule_deck_to_1(edition: u64, deck: &[u8], buf: &mut [u8]) -> u64
+    ensures { λ r. ⌜ SendsOther edition 2 1 (now (deck .entry)) (now (buf .entry)) r (now (buf .exit)) ⌝ }
+{
+    packed::pack(convert::to_1(edition, deck, buf))
 }

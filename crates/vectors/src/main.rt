@@ -181,7 +181,7 @@ fn unpack_if(there: bool, v: &[u8], at: usize, base: &[u8], out: &mut [u8]) -> U
 fn numbers_of(call: u64) -> u64 {
     match call {
         0 | 10 => 0,
-        5 => 1,
+        5 | 20 | 21 => 1,
         4 | 7 | 17 => 2,
         1 | 2 | 6 | 9 | 12 | 13 | 16 | 18 => 3,
         8 | 11 | 14 => 4,
@@ -202,7 +202,7 @@ fn takes(call: u64, n: u64) -> bool {
 fn strings_of(call: u64) -> u64 {
     match call {
         1 | 4 => 0,
-        12 | 14 | 16 | 17 => 2,
+        12 | 14 | 16 | 17 | 20 | 21 => 2,
         15 => 3,
         _ => 1,
     }
@@ -509,6 +509,8 @@ fn edit(v: &[u8], buf: &mut [u8], second: &[u8], third: &[u8]) -> Outcome {
         12 => rename::rename(edition, buf, n, k, second),
         13 => remove::remove(edition, buf, n, k),
         14 => insert::insert(edition, buf, n, k, second, number(v, 3)),
+        20 => convert::to_2(edition, second, buf),
+        21 => convert::to_1(edition, second, buf),
         _ => grow(v, buf, second, third),
     }
 }

@@ -3,12 +3,10 @@ use format::Fault;
 use format::Read;
 use kind::Product;
 ghost use mathlib.Core.Path.{_≡_};
-ghost use Prim.Native.Nat.{_+_};
-ghost use lib.Dec.{eqb};
 ghost use lib.ListN.{length};
 ghost use Rattle.format.specs.Combinators.{each, sized};
 ghost use Rattle.format.specs.Laws.Seen.{seen, none};
-ghost use Rattle.rule.specs.Rule.{head, placed, body, fromUnknown4, fromUnknown2, rule, elementsIn};
+ghost use Rattle.rule.specs.Rule.{placed, body, fromUnknown2, rule, elementsIn};
 
 // n elements of a rule.
 fn elements_at(s: &[u8], at: usize, product: Product, n: u64) -> Read
@@ -46,16 +44,6 @@ fn body_at(s: &[u8], at: usize, product: Product, i: u64) -> Read
     Read::Got(e, n)
 }
 
-// Whether `size` bytes lie between two places.
-fn spans(from: usize, to: usize, size: u64) -> bool
-    ensures { λ r. ⌜ r ≡ eqb (from + size) to ⌝ }
-{
-    if to < from {
-        return false;
-    }
-    (to - from) as u64 == size
-}
-
 // The Data Size of rule i and what it counts.
 fn sized_at(s: &[u8], at: usize, product: Product, i: u64) -> Read
     ensures { λ r. ⌜ r ≡ seen length (sized Fault.Size (body product i)) (now (s .entry)) at ⌝ }
@@ -65,43 +53,24 @@ fn sized_at(s: &[u8], at: usize, product: Product, i: u64) -> Read
         return d;
     };
     let rest = body_at(s, p, product, i);
-    let Read::Got(q, n) = rest else {
+    let Read::Got(q, _) = rest else {
         return rest;
     };
-    if spans(p, q, size) {
-        return Read::Got(q, n);
+    if p + size as usize != q {
+        return Read::No(at, Fault::Size);
     }
-    Read::No(at, Fault::Size)
+    rest
 }
 
-// Unknown4, Unknown5, and from Data Size on.
-fn unknown4_at(s: &[u8], at: usize, product: Product, i: u64) -> Read
-    ensures { λ r. ⌜ r ≡ seen (λ f. length (f .1 .1)) (fromUnknown4 product i) (now (s .entry)) at ⌝ }
-{
-    let a = wire::u32_at(s, at);
-    let Read::Got(p, _) = a else {
-        return a;
-    };
-    let b = wire::u32_at(s, p);
-    let Read::Got(q, _) = b else {
-        return b;
-    };
-    sized_at(s, q, product, i)
-}
-
-// Unknown2, Unknown3, and from Unknown4 on.
+// Unknown2 to Unknown5, and from Data Size on; all five are there, or the first that is not is cut.
 fn unknown2_at(s: &[u8], at: usize, product: Product, i: u64) -> Read
     ensures { λ r. ⌜ r ≡ seen (λ f. length (f .1 .1 .1 .1)) (fromUnknown2 product i) (now (s .entry)) at ⌝ }
 {
-    let a = wire::u32_at(s, at);
-    let Read::Got(p, _) = a else {
-        return a;
+    let u = wire::numbers_at(s, at, 5);
+    let Read::Got(p, _) = u else {
+        return u;
     };
-    let b = wire::u32_at(s, p);
-    let Read::Got(q, _) = b else {
-        return b;
-    };
-    unknown4_at(s, q, product, i)
+    sized_at(s, p - 4, product, i)
 }
 
 // Rule i at the start of a part.

@@ -5,7 +5,7 @@ ghost use mathlib.Core.Path.{_≡_};
 ghost use Prim.Native.Nat.{_+_, _-_, _*_, _<_, _≤_, _^_};
 ghost use lib.ListN.{length, take, drop};
 ghost use Rattle.format.specs.ReadWrite.{value};
-ghost use Rattle.format.specs.Combinators.{number, fixed};
+ghost use Rattle.format.specs.Combinators.{number, each, fixed};
 ghost use Rattle.format.specs.Laws.Seen.{seen, itself, none};
 
 // The bytes at a place that has them, the lowest first.
@@ -113,6 +113,23 @@ pub fn u64_at(s: &[u8], at: usize) -> Read
         return Read::No(at, Fault::Cut);
     }
     Read::Got(at + 8, eight(s, at))
+}
+
+// n numbers of 4 bytes, of which nothing is told: a cut one is the first that is not there whole.
+pub fn numbers_at(s: &[u8], at: usize, n: u16) -> Read
+    ensures { λ r. ⌜ r ≡ seen none (each (λ i. number 4) 0 n) (now (s .entry)) at ⌝ }
+{
+    if s.len() < at {
+        if n == 0 {
+            return Read::Got(at, 0);
+        }
+        return Read::No(at, Fault::Cut);
+    }
+    let end = at + 4 * (n as usize);
+    if s.len() < end {
+        return Read::No(at + 4 * ((s.len() - at) / 4), Fault::Cut);
+    }
+    Read::Got(end, 0)
 }
 
 // A constant of 12 bytes, the first eight and the last four.

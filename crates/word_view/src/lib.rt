@@ -53,10 +53,10 @@ fn rule_word(s: &[u8], at: usize, product: Product, k: u64, e: u64, w: u64) -> V
 }
 
 // Word w of element e of rule k of a sound deck, whose rules start at base.
-fn word_of(s: &[u8], product: Product, base: usize, k: u64, e: u64, w: u64) -> View
-    ensures { λ v. ⌜ Finds product (now (s .entry)) base k (ruleWord k e w product) v × Inside v (length (now (s .entry))) ⌝ }
+fn word_of(s: &[u8], product: Product, version: u64, base: usize, k: u64, e: u64, w: u64) -> View
+    ensures { λ v. ⌜ Finds product version (now (s .entry)) base k (ruleWord k e w product) v × Inside v (length (now (s .entry))) ⌝ }
 {
-    let r = steps::start_of(s, base, k);
+    let r = steps::rule_start(s, version, base, k);
     let Read::Got(at, _) = r else {
         return view::no_view(format::end_says(r));
     };
@@ -72,13 +72,13 @@ pub fn find_word(edition: u64, s: &[u8], k: u64, e: u64, w: u64) -> View
         return View::No(Fault::Edition, 0);
     };
     let c = deck::pass(edition, s);
-    let Scan::Is(_, base, n, _) = c else {
+    let Scan::Is(version, base, n, _) = c else {
         return view::no_view(scan::scan_says(c));
     };
     if n <= k {
         return View::No(Fault::Absent, 0);
     }
-    word_of(s, product, base, k, e, w)
+    word_of(s, product, version, base, k, e, w)
 }
 
 // That word as a part of the deck's bytes.

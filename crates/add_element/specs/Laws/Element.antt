@@ -124,7 +124,7 @@ module _ (n m e c id : ℕ) (s d : List ℕ) where
       let els = h .r .elements in
       let f : drop k rs ≡ h .r ∷ [] = h .from ∙ rw z in
       let size : sizeOf k els + length (laterBytes id s) ≡ n + 6 + length s - (e + 24) = omega (arith, later-long id s, size-ends n d h z w g) in
-      written-here v rs [] k (h .r) (holding (els ++ (x ∷ [])) (h .r)) f l ∙ rw (rules-none, append-nil, back-more k els x (laterBytes id s) (rw cs at b), size, cs)
+      written-here v rs [] k (h .r) (holding (els ++ (x ∷ [])) (h .r)) f l (λ z. absurd (omega arith)) ∙ rw (rules-none, append-nil, back-more k els x (laterBytes id s) (rw cs at b), size, cs)
 
   grown-long : {p : Product} {v : ℕ} {rs : List Rule} {k : ℕ} (h : Here p v (take n d) rs k) (S C : ℕ) → h .later ≡ [] → n ≤ length d → e ≡ enabledAt (startOf v rs k) (h .r)
       → length (before v rs k ++ (front (h .r) ++ (spelt 4 S ++ (spelt 2 C ++ (headBytes k ++ (inner (h .r .elements) ++ laterBytes id s)))))) ≡ n + 6 + length s

@@ -19,23 +19,26 @@ add-end-2 c = let w = text-small (c .before .before .before .before .before .bef
 add-end-3 : tie.Need-add-end-3
 add-end-3 c = let w = text-small (c .before .before .before .before .before .before .args .name .now) in search (needs, w, c .before .text-size .ensures, c .head-size .ensures .1)
 
+add-room-for-2 : tie.Need-add-room-for-2
+add-room-for-2 c = let w = text-small (c .before .before .before .before .before .before .before .before .args .name .now) in search (needs, w, c .before .before .before .text-size .ensures, c .before .before .head-size .ensures .1, c .wide-of .ensures .1)
+
 returns : tie.Need-returns
-returns c = extend-out _ _ _ _ _ _ (c .before .before .before .before .before .before .before .before .before .pre .2) (c .before .before .before .before .text-size .ensures) (c .before .before .before .head-size .ensures .0) (c .before .room-for .ensures) (λ v h. elim (rw h at (c .match .keys2)) [ inl z ↦ absurd (omega arith) | inr z ↦ absurd (omega arith) ])
+returns c = extend-out _ _ _ _ _ _ (c .before .before .before .before .before .before .before .before .before .before .pre .2) (c .before .before .before .before .before .text-size .ensures) (c .before .before .before .before .head-size .ensures .0) (c .before .before .wide-of .ensures .0) (c .before .room-for .ensures) (λ v h. elim (rw h at (c .match .keys2)) [ inl z ↦ absurd (omega arith) | inr z ↦ absurd (omega arith) ])
 
 put-front-requires : tie.Need-put-front-requires
 put-front-requires c κs =
-    let o = c .before .before .before .before .before .before .before .before .before .before .before in
+    let o = c .before .before .before .before .before .before .before .before .before .before .before .before in
     let w = text-size (o .args .name .now) (o .pre .2) in
     let j = roomy _ _ _ (c .before .before .before .room-for .ensures) (c .before .enum-told .given .1) in
-    (o .pre .2, omega (arith, w, c .before .before .before .before .before .before .text-size .ensures, j .inside))
+    (o .pre .2, omega (arith, w, c .before .before .before .before .before .before .before .text-size .ensures, j .inside))
 
 put-back-requires : tie.Need-put-back-requires
 put-back-requires c κs =
     let j = roomy _ _ _ (c .before .before .before .before .before .before .before .room-for .ensures) (c .before .before .before .before .before .enum-told .given .1) in
-    omega (arith, j .inside, c .before .before .before .before .before .before .before .before .before .head-size .ensures .0, c .before .before .before .put-front .kept .0)
+    omega (arith, j .inside, c .before .before .before .before .before .before .before .before .before .before .head-size .ensures .0, c .before .before .before .put-front .kept .0)
 
 returns-2 : tie.Need-returns-2
-returns-2 c = extend-done _ _ _ _ _ _ _ _ (c .before .before .before .before .before .before .before .before .before .before .before .before .before .before .before .before .before .before .before .before .before .before .before .pre .2) (c .before .before .before .before .before .before .before .before .before .before .before .before .before .before .before .before .before .before .text-size .ensures) (c .before .before .before .before .before .before .before .before .before .before .before .before .before .before .before .before .before .head-size .ensures .0) (c .before .before .before .before .before .before .before .before .before .before .before .before .before .before .before .room-for .ensures) (c .before .before .before .before .before .before .before .before .before .before .before .before .before .enum-told .given .1) (c .before .before .before .before .before .before .before .before .before .before .before .put-front .ensures) (c .before .before .before .before .before .before .before .put-back .ensures) (c .before .before .finish .ensures)
+returns-2 c = extend-done _ _ _ _ _ _ _ _ (c .before .before .before .before .before .before .before .before .before .before .before .put-front .ensures .1) (c .before .before .before .before .before .before .before .before .before .before .before .before .before .before .before .before .before .before .before .before .before .before .before .before .pre .2) (c .before .before .before .before .before .before .before .before .before .before .before .before .before .before .before .before .before .before .before .text-size .ensures) (c .before .before .before .before .before .before .before .before .before .before .before .before .before .before .before .before .before .before .head-size .ensures .0) (c .before .before .before .before .before .before .before .before .before .before .before .before .before .before .before .before .wide-of .ensures .0) (c .before .before .before .before .before .before .before .before .before .before .before .before .before .before .before .room-for .ensures) (c .before .before .before .before .before .before .before .before .before .before .before .before .before .enum-told .given .1) (c .before .before .before .before .before .before .before .before .before .before .before .put-front .ensures .0) (c .before .before .before .before .before .before .before .put-back .ensures) (c .before .before .finish .ensures)
 
 pub extend-spec : {M : Type 1} → statement M
 extend-spec =
@@ -49,6 +52,8 @@ extend-spec =
     add-end-2
     add-end-3
     (λ c. search needs)
+    (λ c κs. search needs)
+    add-room-for-2
     (λ c κs. search needs)
     (λ c. search needs)
     returns

@@ -16,7 +16,7 @@ extend-requires : tie.Need-extend-requires
 extend-requires c κs = let o = c .before .before .before .before .before .before .before .before .before in (o .pre .0, o .pre .1, sym (c .before .before .before .before .before .is-text .ensures) ∙ not-false _ (c .before .before .before .before .if1 .left))
 
 returns-3 : tie.Need-returns-3
-returns-3 c = rule-done _ _ _ _ _ _ _ _ _ (bytes-all (c .before .before .before .before .before .before .before .before .before .before .before .before .args .name .now) (c .before .before .before .before .before .before .before .before .before .before .shared-slice-known .given)) (bytes-all (c .before .before .before .before .before .before .before .before .before .before .before .before .args .s .now) (c .before .before .before .before .before .before .before .before .before .shared-slice-known2 .given)) (sym (c .before .before .before .before .before .before .before .before .is-text .ensures) ∙ not-false _ (c .before .before .before .before .before .before .before .if1 .left)) (c .before .before .before .before .before .before .given-element .ensures) (c .before .before .before .before .enum-told .given .1) (c .before .before .extend .ensures)
+returns-3 c = rule-done _ _ _ _ _ _ _ _ _ (c .before .before .before .before .before .before .before .before .before .before .before .before .fits .identifier .fits) (bytes-all (c .before .before .before .before .before .before .before .before .before .before .before .before .args .name .now) (c .before .before .before .before .before .before .before .before .before .before .shared-slice-known .given)) (bytes-all (c .before .before .before .before .before .before .before .before .before .before .before .before .args .s .now) (c .before .before .before .before .before .before .before .before .before .shared-slice-known2 .given)) (sym (c .before .before .before .before .before .before .before .before .is-text .ensures) ∙ not-false _ (c .before .before .before .before .before .before .before .if1 .left)) (c .before .before .before .before .before .before .given-element .ensures) (c .before .before .before .before .enum-told .given .1) (c .before .before .extend .ensures)
 
 pub rule-in-spec : {M : Type 1} → statement M
 rule-in-spec =

@@ -1,5 +1,5 @@
 -- A rule added at the end: its bytes behind the deck, and the number of rules written over.
-use Prim.Native.Nat.{ℕ, _+_, _≤_, max}
+use Prim.Native.Nat.{ℕ, _+_, _^_, _≤_, _<_, max}
 use native.Mathlib.Omega.{arith}
 use native.Mathlib.Nat.{zero-add}
 use mathlib.Core.Path.{_≡_, refl, sym, ap, _∙_}
@@ -25,9 +25,9 @@ use Rattle.element.specs.Element.{Element}
 use Rattle.rule.specs.declared.Fields.{Fields}
 use Rattle.rule.specs.Rule.{Rule, placed}
 use Rattle.rule.specs.Laws.Parts.{kept, front, back, headBytes, inner, sizeOf}
-use Rattle.deck.specs.Deck.{baseOf}
-use Rattle.deck.specs.Written.{written}
-use Rattle.deck.specs.Laws.Written.{lead, before, before-is, behind-long, written-is, written-long, rules, rules-cons}
+use Rattle.deck.specs.Deck.{wide}
+use Rattle.deck.specs.Written.{deckOf, written}
+use Rattle.deck.specs.Laws.Written.{lead, before, before-is, written-is, written-one-more, rules, rules-cons}
 use Rattle.buffer.specs.Laid.{putIn}
 use Rattle.buffer.specs.Laws.Laid.{put-both}
 use Rattle.buffer.specs.Laws.Holds.{Holds, holds-behind}
@@ -37,6 +37,10 @@ use Rattle.given.specs.Given.{isText, textOf, given}
 use Rattle.given.specs.Laws.Element.{first-written}
 use Rattle.plan.specs.Edit.{become, addRule, edited, newRule}
 use Rattle.plan.specs.Laws.Found.{MakesAs, Does, Sits}
+use Rattle.plan.specs.Handed.{HandedFields}
+use Rattle.plan.specs.Laws.Fits.{Every, every-append, Fits, fits-deck}
+use Rattle.plan.specs.Laws.Given.{text-fits, given-fits}
+use Rattle.plan.specs.Laws.Kept.{new-fits}
 use Rattle.plan.specs.Laws.Finish.{Finishes, made-finish}
 use Rattle.plan.specs.Laws.Last.{rules-none}
 use Rattle.room.specs.Room.{roomFor}
@@ -152,7 +156,7 @@ rule-size m name f id s = omega (arith, length-append (frontBytes name f) (backB
 -- whatever rules the deck that was found has: the rule with this name, these fields and the element x, whose bytes these are, is added
 unfoldable pub Extends : Site → List ℕ → Fields → ℕ → List ℕ → List ℕ → Outcome → List ℕ → Type 0
 Extends g name f id s d r d′ =
-    (p : Product) (v : ℕ) (rs : List Rule) (x : Element) → Sits lastOf g d p v rs → placed Studio 0 .write x ≡ spelt 4 id ++ s → textBytes name ≡ string .write (textOf name) → Does v (g .bytes) (become (rs ++ (newRule (textOf name) f x ∷ []))) d r d′
+    (p : Product) (v : ℕ) (rs : List Rule) (x : Element) → Sits lastOf g d p v rs → (HandedFields f → Fits p (newRule (textOf name) f x)) → placed Studio 0 .write x ≡ spelt 4 id ++ s → textBytes name ≡ string .write (textOf name) → Does v (g .bytes) (become (rs ++ (newRule (textOf name) f x ∷ []))) d r d′
 
 module _ (g : Site) (name : List ℕ) (f : Fields) (id : ℕ) (s d : List ℕ) where
   -- of the deck that is found
@@ -161,8 +165,11 @@ module _ (g : Site) (name : List ℕ) (f : Fields) (id : ℕ) (s d : List ℕ) w
     abbrev edits : List Rule
     edits = rs ++ (newRule (textOf name) f x ∷ [])
 
+    one-more : length edits ≡ length rs + 1
+    one-more = length-append rs (newRule (textOf name) f x ∷ [])
+
     many : g .rules + 1 ≡ length edits
-    many = ap (λ (m : ℕ). m + 1) (o .many) ∙ sym (length-append rs (newRule (textOf name) f x ∷ []))
+    many = ap (λ (m : ℕ). m + 1) (o .many) ∙ sym one-more
 
     added-is : placed Studio 0 .write x ≡ spelt 4 id ++ s → textBytes name ≡ string .write (textOf name) → lead v rs ++ rules 0 edits ≡ take (g .bytes) d ++ newBytes (g .rules) name f id s
     unfolding before newBytes
@@ -174,10 +181,9 @@ module _ (g : Site) (name : List ℕ) (f : Fields) (id : ℕ) (s d : List ℕ) w
     added-long : placed Studio 0 .write x ≡ spelt 4 id ++ s → textBytes name ≡ string .write (textOf name) → length (lead v rs ++ rules 0 edits) ≡ g .bytes + 34 + length (textBytes name) + length (headBytes (g .rules)) + length s
     added-long b t = ap length (added-is b t) ∙ omega (arith, length-append (take (g .bytes) d) (newBytes (g .rules) name f id s), rule-size (g .rules) name f id s, length-take-le (g .bytes) d (o .within))
 
-    -- and of its deck
-    added-written : length (written v edits) ≡ length (lead v rs ++ rules 0 edits)
-    unfolding baseOf
-    added-written = written-long v edits ∙ sym (behind-long v rs edits)
+    added-fits : Fits p (newRule (textOf name) f x) → Every (Fits p) edits
+    unfolding Every
+    added-fits w = every-append (Fits p) rs (newRule (textOf name) f x ∷ []) (fits-deck p (deckOf v rs) (o .sound .fit)) (w, tt)
 
   added-holds : {at : ℕ} {y₁ y₂ : List ℕ} → at ≡ g .bytes + 24 + length (textBytes name) → g .bytes + 34 + length (textBytes name) + length (headBytes (g .rules)) + length s ≤ length d → y₁ ≡ putIn d (g .bytes) (frontBytes name f) → y₂ ≡ putIn y₁ at (backBytes (g .rules) id s)
       → Holds y₂ (take (g .bytes) d ++ newBytes (g .rules) name f id s) (g .bytes + length (newBytes (g .rules) name f id s)) d
@@ -191,28 +197,31 @@ module _ (g : Site) (name : List ℕ) (f : Fields) (id : ℕ) (s d : List ℕ) w
       let e₂′ : y₂ ≡ putIn d (g .bytes) (F ++ K) = put-both d (g .bytes) F K e₁ e₂ (omega arith) (omega arith) in
       holds-behind d (g .bytes) (F ++ K) (omega arith) e₂′
 
-  -- size is what a String of the name takes, head the head of the rule, end the new length; o is what 18, 19 and 20 were judged as
-  module _ {size head : ℕ} {q : Outcome} where
-    pub extend-out : isText name ≡ true → size ≡ textSize name → head ≡ length (headBytes (g .rules)) → q ≡ roomFor (g .rules + 1) (g .bytes + 24 + size + 10 + head + length s) (length d) → ((u : ℕ) → q ≡ Outcome.Done u → ⊥) → Extends g name f id s d q d
+  -- size is what a String of the name takes, head the head of the rule, w an offset; q is what 18, 19 and 20 were judged as
+  module _ {size head w : ℕ} {q : Outcome} where
+    pub extend-out : isText name ≡ true → size ≡ textSize name → head ≡ length (headBytes (g .rules)) → w ≡ wide (g .version) → q ≡ roomFor (g .rules + 1) (g .bytes + 24 + size + 10 + head + length s + w) (length d) → ((u : ℕ) → q ≡ Outcome.Done u → ⊥) → Extends g name f id s d q d
     unfolding Extends
-    extend-out it z hz j h p v rs x o b t =
+    extend-out it z hz ew j h p v rs x o fx b t =
         let lt = text-size name it in
         let al = added-long v rs x o b t in
-        let e : g .bytes + 24 + size + 10 + head + length s ≡ length (written v (edits v rs x o)) = rw (added-written v rs x o) (omega arith) in
+        let y : w ≡ wide v = ew ∙ ap wide (o .version) in
+        let e : g .bytes + 24 + size + 10 + head + length s + w ≡ length (written v (edits v rs x o)) = omega (arith, al, written-one-more v rs (edits v rs x o) (one-more v rs x o), lt, y, z, hz) in
         made-out v (g .bytes) d refl j h (many v rs x o) e
 
-    pub extend-done : {y₁ y₂ : List ℕ} (y₃ : List ℕ) (r : ℕ) {u : ℕ} → isText name ≡ true → size ≡ textSize name → head ≡ length (headBytes (g .rules)) → q ≡ roomFor (g .rules + 1) (g .bytes + 24 + size + 10 + head + length s) (length d) → q ≡ Outcome.Done u
+    pub extend-done : {y₁ y₂ : List ℕ} (y₃ : List ℕ) (r : ℕ) {u : ℕ} → HandedFields f → isText name ≡ true → size ≡ textSize name → head ≡ length (headBytes (g .rules)) → w ≡ wide (g .version) → q ≡ roomFor (g .rules + 1) (g .bytes + 24 + size + 10 + head + length s + w) (length d) → q ≡ Outcome.Done u
         → y₁ ≡ putIn d (g .bytes) (frontBytes name f) → y₂ ≡ putIn y₁ (g .bytes + 24 + size) (backBytes (g .rules) id s) → Finishes g (g .rules + 1) (g .bytes + 24 + size + 10 + head + length s) y₂ r y₃ → Extends g name f id s d q y₃
     unfolding Extends
-    extend-done y₃ r it z hz j h e₁ e₂ fin p v rs x o b t =
+    extend-done y₃ r hf it z hz ew j h e₁ e₂ fin p v rs x o fx b t =
         let n = g .bytes + 24 + size + 10 + head + length s in
         let lt = text-size name it in
         let al = added-long v rs x o b t in
         let lr = rule-size (g .rules) name f id s in
-        let l = roomy (g .rules + 1) n (length d) j h .inside in
+        let l = roomy (g .rules + 1) (n + w) (length d) j h .inside in
+        let y : w ≡ wide v = ew ∙ ap wide (o .version) in
         let hi : g .bytes + length (newBytes (g .rules) name f id s) ≡ max (g .bytes) n = omega arith in
         let en : n ≡ length (lead v rs ++ rules 0 (edits v rs x o)) = omega arith in
-        made-finish g (g .rules + 1) n n d v rs o r j h fin (rw (hi, ← added-is v rs x o b t) at (added-holds (omega arith) (omega arith) e₁ e₂)) en (omega arith) refl (many v rs x o) (en ∙ sym (added-written v rs x o))
+        let e : n + w ≡ length (written v (edits v rs x o)) = omega (arith, en, written-one-more v rs (edits v rs x o) (one-more v rs x o), y) in
+        made-finish g (g .rules + 1) n (n + w) d p v rs o r (added-fits v rs x o (fx hf)) j h fin (rw (hi, ← added-is v rs x o b t) at (added-holds (omega arith) (omega arith) e₁ e₂)) en (omega arith) refl (many v rs x o) e
 
 -- ---- what is judged before
 
@@ -229,8 +238,8 @@ module _ (p : Product) (g : Site) (name : List ℕ) (f : Fields) (id : ℕ) (s d
         let y = made-given v (g .bytes) d (if-text name _ e ∙ no-given _ (u .is ∙ ap (refused c) (sym (u .ends ∙ zero-add (u .o))))) in
         (er ∙ ap inGiven (ei ∙ ap endSays h) ∙ y .0, y .1)
 
-    pub rule-done : (r : Outcome) (d′ : List ℕ) {w l : ℕ} → Bytes name → Bytes s → isText name ≡ true → t ≡ told 0 none (given p id s) → t ≡ Read.Got l w → Extends g name f id s d r d′ → MakesAs p lastOf g (addRule name f id s) d r d′
+    pub rule-done : (r : Outcome) (d′ : List ℕ) {w l : ℕ} → id < 256 ^ 4 → Bytes name → Bytes s → isText name ≡ true → t ≡ told 0 none (given p id s) → t ≡ Read.Got l w → Extends g name f id s d r d′ → MakesAs p lastOf g (addRule name f id s) d r d′
     unfolding MakesAs edited Extends
-    rule-done r d′ bn bs e a h x v rs o =
+    rule-done r d′ hi bn bs e a h x v rs o =
         let u = told-got 0 none (given p id s) a h in
-        rw (if-text name _ e, at-given _ (u .is)) (x p v rs (u .x) o (first-written p Studio id s (u .x) (u .n) bs (u .is)) (text-is name bn e))
+        rw (if-text name _ e, at-given _ (u .is)) (x p v rs (u .x) o (λ hf. new-fits p (textOf name) f (u .x) hf (text-fits name bn e) (given-fits p id s (u .x) (u .n) hi bs (u .is))) (first-written p Studio id s (u .x) (u .n) bs (u .is)) (text-is name bn e))

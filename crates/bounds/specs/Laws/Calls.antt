@@ -13,7 +13,6 @@ use Rattle.format.specs.declared.Outcome.the-variants as Outcome
 use Rattle.format.specs.Fault.{numberOf}
 use Rattle.format.specs.Format.{Answer, got, refused, pick}
 use Rattle.format.specs.ReadWrite.{within}
-use Rattle.format.specs.Laws.ReadWrite.{within-is}
 use Rattle.format.specs.Row.{total}
 use Rattle.kind.specs.declared.Product.{Product}
 use Rattle.kind.specs.declared.Edition.{Edition}
@@ -45,7 +44,7 @@ use Rattle.bounds.specs.Calls.{judges, owns, Gift, nothing, aDeck, anEle
 use Rattle.bounds.specs.Laws.Places.{BytesOf, given-bytes}
 use Rattle.bounds.specs.Listed.{Numbers, allowed, Lists, numbers, exactly}
 use Rattle.bounds.specs.Laws.Listed.{allowed-first, allowed-later}
-use Rattle.bounds.specs.Laws.Faulty.{Faulty, deck-faulty, edition-listed, faulty-listed, ElementListed, element-listed}
+use Rattle.bounds.specs.Laws.Faulty.{Faulty, deck-faulty, deck-allowed, edition-listed, faulty-listed, ElementListed, element-listed}
 use Rattle.text.specs.Text.{word, Text}
 
 pub check-listed : (edition : ℕ) (s : List ℕ) → Lists checkNumbers (answered (readDeck edition s))
@@ -86,7 +85,7 @@ read-listed edition rules elements s = by (editionOf edition)
     by Edition.Unknown = edition-listed (numbers 14 14 1 ∷ [])
 
 absent-listed : (last q : ℕ) → q ≤ last → q ≤ 2 → Lists (viewNumbers last) (Outcome.No Fault.Absent q)
-absent-listed last q f g = (allowed-later (numbers 1 13 60000) (numbers 16 16 last ∷ []) 16 q (allowed-first 16 16 last [] 16 q (omega arith) (omega arith) f), g)
+absent-listed last q f g = (allowed-later (numbers 1 13 60000) _ 16 q (allowed-later (numbers 29 29 60000) _ 16 q (allowed-first 16 16 last [] 16 q (omega arith) (omega arith) f)), g)
 
 -- Q says it of what is answered
 module _ {W : Type 0} (no : Fault → ℕ → W) (f : Product → ℕ → Rule → W) (last : ℕ) (Q : W → Type 0) (says-no : (c : Fault) (q : ℕ) → Lists (viewNumbers last) (Outcome.No c q) → Q (no c q)) (there : (p : Product) (at : ℕ) (r : Rule) → Q (f p at r)) where
@@ -158,14 +157,13 @@ behind [] rows n q f = f
 behind ((c, o) ∷ faults) rows n q f = allowed-later (exactly (numberOf c) o) (eachExactly faults rows) n q (behind faults rows n q f)
 
 gift-allowed : (e : Edit) (n q : ℕ) → allowed (giftNumbers (givenTo e)) n q ≡ true → allowed (editNumbers e) n q ≡ true
-gift-allowed e n q f = allowed-later (numbers 1 13 60000) (laterNumbers e) n q (behind (owns e) (giftNumbers (givenTo e)) n q f)
+gift-allowed e n q f = allowed-later (numbers 1 13 60000) _ n q (allowed-later (numbers 29 29 60000) (laterNumbers e) n q (behind (owns e) (giftNumbers (givenTo e)) n q f))
 
 given-listed : (p : Product) (e : Edit) (g : Gift) → ((n q : ℕ) → allowed (giftNumbers g) n q ≡ true → allowed (editNumbers e) n q ≡ true) → BytesOf g → OfGift (GivenListed e) p g
 given-listed p e nothing w h = tt
 given-listed p e (aDeck s) w h = refused-as (GivenListed e) (readAs p s) (λ c q z.
     let f = as-refused Faulty (deck-faulty p s) z in
-    let i = within-is 2 13 (numberOf c) (f .0) in
-    (w (numberOf c + 32) q (allowed-first 34 45 60000 [] (numberOf c + 32) q (omega arith) (omega arith) (f .1 .0)), f .1 .1))
+    (w (numberOf c + 32) q (deck-allowed 34 32 [] (numberOf c) (numberOf c + 32) q (omega arith) (omega arith) (f .0) (f .1 .0)), f .1 .1))
 given-listed p e (anElement id s) w h = refused-as (GivenListed e) (given p id s) (λ c q z.
     let f = as-refused ElementListed (element-listed p id s h) z in
     (w (numberOf c + 32) q (f .0), f .1))

@@ -1,14 +1,16 @@
 -- Which faults a reading can be refused for, from those of its parts.
-use Prim.Native.Nat.{ℕ, zero, suc, _+_}
+use Prim.Native.Nat.{ℕ, zero, suc, _+_, _*_}
 use mathlib.Core.Path.{_≡_}
 use mathlib.Core.Bool.{Bool, true, false}
-use mathlib.Core.List.{List}
+use mathlib.Core.List.{List, _∷_}
 use lib.Dec.{leb, eqb}
 use lib.ListN.{length, take, drop}
 use Rattle.format.specs.declared.Fault.{Fault}
 use Rattle.format.specs.declared.Fault.the-variants as Fault
 use Rattle.format.specs.Format.{Answer, got, refused, shift, mapped, andThen, whole, pick, Format}
-use Rattle.format.specs.ReadWrite.{pairRead, judge, judgeOf, home, numberRead, value, eachRead, weighed}
+use Rattle.format.specs.ReadWrite.{pairRead, judge, judgeOf, home, numberRead, value, spelt, eachRead, weighed}
+use Rattle.format.specs.Index.{onward, valuesRead, indexedRead}
+use Rattle.format.specs.Indexed.{indexed}
 use Rattle.format.specs.Combinators.{pair, judged, via, atStart, nothing, seq, _then_, number, fixed, bytes, count, flag, each, counted, listed, measured, sized}
 use Rattle.text.specs.Length.{longLength, inLong, lengthBehind}
 use Rattle.text.specs.Text.{stringLength, stringOf, unit, string, wordOf, word}
@@ -141,6 +143,26 @@ module _ (P : Fault → Type 0) where
       go : (b : Bool) → For P (pick b (got (value (take k s)) k) (refused Fault.Cut 0))
       go true = tt
       go false = cut
+
+  -- offsets, then values, each refused for its offset first
+  for-onward : {A B : Type 0} (p : ℕ) (q : Answer A) (k : A → ℕ → Answer B) → For P q → ((x : A) (n : ℕ) → For P (k x n)) → For P (onward p q k)
+  unfolding For onward
+  for-onward p (got x n) k h f = f x (p + n)
+  for-onward p (refused c o) k h f = h
+
+  module _ {A : Type 0} (w origin : ℕ) (c : Fault) (a : ℕ → Format A) (off : P c) (f : (i : ℕ) → Gives P (a i)) where
+    for-values : (s : List ℕ) (i k p : ℕ) → For P (valuesRead w origin c a s i k p)
+    unfolding Gives For valuesRead pick
+    for-values s i zero p = tt
+    for-values s i (suc k) p = go (λ q. for-values s (i + 1) k q) (eqb (value (take w (drop (w * i) s))) (value (spelt w (origin + p))))
+      where
+        go : ((q : ℕ) → For P (valuesRead w origin c a s (i + 1) k q)) → (b : Bool) → For P (pick b (onward p (a i .read (drop p s)) (λ x q. mapped (λ xs. x ∷ xs) (valuesRead w origin c a s (i + 1) k q))) (refused c (w * i)))
+        go more true = for-onward p (a i .read (drop p s)) _ (f i (drop p s)) (λ x q. for-mapped _ (valuesRead w origin c a s (i + 1) k q) (more q))
+        go more false = off
+
+    pub gives-indexed : P Fault.Cut → (n : ℕ) → Gives P (indexed w origin c a n)
+    unfolding Gives indexed indexedRead
+    gives-indexed cut n s = for-onward 0 (eachRead (λ i. number w) 0 n s) _ (for-each (λ i. number w) (λ i. gives-number cut w) 0 n s) (λ os p. for-values s 0 n p)
 
   -- ---- what data give
   module _ (cut : P Fault.Cut) (many : P Fault.Count) (form : P Fault.Form) (wrong : P Fault.Field) (day : P Fault.Date) where

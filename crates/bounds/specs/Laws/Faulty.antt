@@ -1,12 +1,12 @@
--- What a deck and a given element are refused for: 2 to 13, at places of document 01's table.
+-- What a deck and a given element are refused for: 2 to 13, a deck also 29, at places of document 01's table.
 use Prim.Native.Nat.{ℕ, _+_, _≤_}
 use native.Mathlib.Omega.{arith}
 use mathlib.Core.Path.{_≡_, refl, _∙_}
-use mathlib.Core.Bool.{Bool, true, false}
+use mathlib.Core.Bool.{Bool, true, false, _||_}
 use mathlib.Core.List.{List, _∷_}
 use lib.Dec.{leb, eqb}
 use lib.ListN.{length, take, drop}
-use borrow.Author.Tests.{le-leb, leb-true}
+use borrow.Author.Tests.{le-leb, leb-true, eqb-true}
 use Rattle.format.specs.declared.Fault.{Fault}
 use Rattle.format.specs.declared.Fault.the-variants as Fault
 use Rattle.format.specs.declared.Outcome.{Outcome}
@@ -23,19 +23,23 @@ use Rattle.kind.specs.declared.Row.the-variants as Row
 use Rattle.kind.specs.Kinds.{rowOf}
 use Rattle.element.specs.Data.{dataOf}
 use Rattle.rule.specs.Rule.{Rule, rule}
-use Rattle.deck.specs.Deck.{Deck, mark, ruleCount, version, ruleList, deck, readAs}
+use Rattle.deck.specs.Deck.{Deck, mark, ruleCount, version, wide, ruleList, deck, readAs}
 use Rattle.deck.specs.Written.{deckOf}
 use Rattle.given.specs.Given.{given, givenBy, withData}
-use Rattle.bounds.specs.Calls.{most, elementNumbers}
+use Rattle.bounds.specs.Calls.{most, elementNumbers, deckNumbers}
 use Rattle.bounds.specs.Laws.Data.{row-refuses, given-end, whole-end}
-use Rattle.bounds.specs.Laws.Faults.{For, Gives, for-refused, for-mapped, for-shift, for-whole, gives-each, gives-counted, gives-count, gives-data, gives-rule}
+use Rattle.bounds.specs.Laws.Faults.{For, Gives, for-refused, for-mapped, for-shift, for-whole, gives-counted, gives-indexed, gives-count, gives-data, gives-rule}
 use Rattle.bounds.specs.Laws.Refused.{RefusedAs, refused-as}
 use Rattle.bounds.specs.Listed.{Listed, Numbers, allowed, Lists, numbers}
-use Rattle.bounds.specs.Laws.Listed.{allowed-first}
+use Rattle.bounds.specs.Laws.Listed.{allowed-first, allowed-later}
 
--- what a deck is refused for: 2 to 13, at a place of the table where it is not past 60,000
+-- 2 to 13, and 29
+abbrev ofDeck : ℕ → Bool
+ofDeck n = within 2 13 n || eqb n 29
+
+-- what a deck is refused for: these, at a place of the table where it is not past 60,000
 abbrev Told : Fault → ℕ → Type 0
-Told c q = (within 2 13 (numberOf c) ≡ true) × (q ≤ 60000 → Listed c q)
+Told c q = (ofDeck (numberOf c) ≡ true) × (q ≤ 60000 → Listed c q)
 
 -- at whatever place
 as-for : {A : Type 0} (P : Fault → ℕ → Type 0) (a : Answer A) → For (λ c. (q : ℕ) → P c q) a → RefusedAs P a
@@ -82,18 +86,18 @@ version-told s = as-fixed Told 3 _ Fault.Mark _ s (refl, λ h. h) (refl, λ h. r
 abbrev Always : Fault → Type 0
 Always c = (q : ℕ) → Told c q
 
-rules-told : (p : Product) → Gives Always (ruleList p)
+rules-told : (p : Product) (v : ℕ) → Gives Always (ruleList p v)
 unfolding ruleList within
-rules-told p =
+rules-told p v =
     gives-counted Always ruleCount _ _ (gives-count Always (λ q. (refl, λ h. h)) (λ q. (refl, λ h. h)) (λ q. (refl, λ h. h)) (λ q. (refl, λ h. h)) (λ q. (refl, λ h. h)) 2 0 256)
-    (gives-each Always (rule p) (gives-rule Always (λ q. (refl, λ h. h)) (λ q. (refl, λ h. h)) (λ q. (refl, λ h. h)) (λ q. (refl, λ h. h)) (λ q. (refl, λ h. h)) (λ q. (refl, λ h. h)) (λ q. (refl, λ h. h)) (λ q. (refl, λ h. h)) p) 0)
+    (gives-indexed Always (wide v) 7 Fault.Offset (rule p) (λ q. (refl, λ h. h)) (gives-rule Always (λ q. (refl, λ h. h)) (λ q. (refl, λ h. h)) (λ q. (refl, λ h. h)) (λ q. (refl, λ h. h)) (λ q. (refl, λ h. h)) (λ q. (refl, λ h. h)) (λ q. (refl, λ h. h)) (λ q. (refl, λ h. h)) p) (λ q. (refl, λ h. h)))
 
 deck-told : (p : Product) (s : List ℕ) → RefusedAs Told (deck p .read s)
 unfolding deck seq via pair pairRead andThen mapped Gives RefusedAs
 deck-told p s = go (version .read s) (version-told s)
   where
-    go : (a : Answer ℕ) → RefusedAs Told a → RefusedAs Told (mapped (λ (w : ℕ × List Rule). deckOf (w .0) (w .1)) (andThen a (λ v k. mapped (λ rs. (v, rs)) (ruleList p .read (drop k s)))))
-    go (got v k) h = as-for Told _ (for-mapped Always _ _ (for-shift Always k _ (for-mapped Always _ _ (rules-told p (drop k s)))))
+    go : (a : Answer ℕ) → RefusedAs Told a → RefusedAs Told (mapped (λ (w : ℕ × List Rule). deckOf (w .0) (w .1)) (andThen a (λ v k. mapped (λ rs. (v, rs)) (ruleList p v .read (drop k s)))))
+    go (got v k) h = as-for Told _ (for-mapped Always _ _ (for-shift Always k _ (for-mapped Always _ _ (rules-told p v (drop k s)))))
     go (refused c q) h = h
 
 whole-told : {A : Type 0} (n : ℕ) (a : Answer A) → RefusedAs Told a → RefusedAs Told (whole n a)
@@ -105,9 +109,17 @@ whole-told n (got x m) h = go (eqb m n)
     go false = (refl, λ h. h)
 whole-told n (refused c q) h = h
 
--- 2 to 13, at a place of the table
+-- 2 to 13 and 29, at a place of the table
 abbrev pub Faulty : Fault → ℕ → Type 0
-Faulty c q = (within 2 13 (numberOf c) ≡ true) × ((q ≤ 60000) × Listed c q)
+Faulty c q = (ofDeck (numberOf c) ≡ true) × ((q ≤ 60000) × Listed c q)
+
+-- they are among the rows that say so, and so are they plus 32
+pub deck-allowed : (low add : ℕ) (rows : List Numbers) (n m q : ℕ) → low ≤ 2 + add → m ≡ n + add → ofDeck n ≡ true → q ≤ 60000 → allowed (numbers low (13 + add) 60000 ∷ numbers (29 + add) (29 + add) 60000 ∷ rows) m q ≡ true
+deck-allowed low add rows n m q l e f h = go (within 2 13 n) refl f
+  where
+    go : (b : Bool) → within 2 13 n ≡ b → (b || eqb n 29) ≡ true → allowed (numbers low (13 + add) 60000 ∷ numbers (29 + add) (29 + add) 60000 ∷ rows) m q ≡ true
+    go true w f = let i = within-is 2 13 n w in allowed-first low (13 + add) 60000 _ m q (omega arith) (omega arith) h
+    go false w f = let i = eqb-true n 29 f in allowed-later _ _ m q (allowed-first (29 + add) (29 + add) 60000 rows m q (omega arith) (omega arith) h)
 
 pub deck-faulty : (p : Product) (s : List ℕ) → RefusedAs Faulty (readAs p s)
 unfolding readAs RefusedAs endOf pick within
@@ -125,13 +137,13 @@ deck-faulty p s = long (leb (length s) 60000) refl
         read (whole (length s) (deck p .read s)) (whole-told (length s) (deck p .read s) (deck-told p s)) (omega arith)
     long false l = (refl, (omega arith, refl))
 
--- a call that begins with a deck gives 1 to 13, and then its own
+-- a call that begins with a deck gives 1 to 13 and 29, and then its own
 module _ (rows : List Numbers) where
-  pub edition-listed : Lists (numbers 1 13 60000 ∷ rows) (Outcome.No Fault.Edition 0)
-  edition-listed = (allowed-first 1 13 60000 rows 1 0 (omega arith) (omega arith) (omega arith), refl)
+  pub edition-listed : Lists (deckNumbers rows) (Outcome.No Fault.Edition 0)
+  edition-listed = (allowed-first 1 13 60000 _ 1 0 (omega arith) (omega arith) (omega arith), refl)
 
-  pub faulty-listed : (c : Fault) (q : ℕ) → Faulty c q → Lists (numbers 1 13 60000 ∷ rows) (Outcome.No c q)
-  faulty-listed c q f = let w = within-is 2 13 (numberOf c) (f .0) in (allowed-first 1 13 60000 rows (numberOf c) q (omega arith) (omega arith) (f .1 .0), f .1 .1)
+  pub faulty-listed : (c : Fault) (q : ℕ) → Faulty c q → Lists (deckNumbers rows) (Outcome.No c q)
+  faulty-listed c q f = (deck-allowed 1 0 rows (numberOf c) (numberOf c) q (omega arith) (omega arith) (f .0) (f .1 .0), f .1 .1)
 
 abbrev pub ElementListed : Fault → ℕ → Type 0
 ElementListed c q = Lists elementNumbers (Outcome.Given c q)

@@ -66,6 +66,7 @@ listed-small Fault.Large q h = omega arith
 listed-small Fault.Room q h = omega arith
 listed-small Fault.Full q h = omega arith
 listed-small Fault.Last q h = omega arith
+listed-small Fault.Offset q h = h
 
 pub within-small : (rows : List Numbers) (last : ℕ) (o : Outcome) → Within rows last o → last ≤ 60000 → placeOf o ≤ 60000
 within-small rows last (Outcome.Done n) f h = omega arith

@@ -1,10 +1,10 @@
 -- Laws of ../Deck.antt: both halves of demand 2 for the whole deck; how the code passes over one; no place that a read answers is above 60,000.
-use Prim.Native.Nat.{ℕ, _+_, _≤_, _<_}
-use native.Mathlib.Nat.{zero-add}
+use Prim.Native.Nat.{ℕ, _+_, _-_, _*_, _≤_, _<_}
+use native.Mathlib.Nat.{add-zero, zero-add, zero-mul, mul-suc, mul-le-mul-left, mul-le-mul-right, le-trans}
 use native.Mathlib.Omega.{arith}
 use mathlib.Core.Path.{_≡_, refl, sym, ap, ap₂, _∙_}
 use mathlib.Core.Bool.{Bool, true, false}
-use mathlib.Core.List.{List, [], _++_, append-nil}
+use mathlib.Core.List.{List, [], append-nil}
 use lib.ListN.{length, drop}
 use lib.Dec.{leb, eqb}
 use lib.Seq.{drop-length, drop-drop}
@@ -20,14 +20,15 @@ use Rattle.format.specs.Laws.Format.{apart, bytes-drop}
 use Rattle.format.specs.ReadWrite.{pairRead, pairWrite, value, spelt, AllFit}
 use Rattle.format.specs.Laws.ReadWrite.{within-is, length-spelt, length-before}
 use Rattle.format.specs.Combinators.{pair, seq, judged, via, _then_, number, count, fixed, bytes, each, counted}
-use Rattle.format.specs.Laws.Combinators.{then-fit}
-use Rattle.format.specs.Laws.Written.{behind, Row}
+use Rattle.format.specs.Index.{onward, valuesRead, indexedRead, indexWrite, indexedWrite}
+use Rattle.format.specs.Indexed.{indexed}
+use Rattle.format.specs.Laws.Indexed.{telling, offsetIs, no-offset, offset-never, offset-is, index-stop, index-start, values-done, values-off, values-stop, values-go, indexed-many}
 use Rattle.format.specs.declared.Read.{Read}
 use Rattle.format.specs.declared.Read.the-variants as Read
-use Rattle.format.specs.Laws.Seen.{seen, itself, none, told-got, told-no, pair-stop, pair-go, via-is}
-use Rattle.format.specs.Laws.Back.{seen-fits}
+use Rattle.format.specs.Laws.Seen.{told, seen, itself, none, told-got, told-no, pair-stop, pair-go, via-is}
+use Rattle.format.specs.Laws.Back.{seen-fits, seen-ends}
 use Rattle.format.specs.Row.{total}
-use Rattle.format.specs.Laws.Rows.{counted-is, row-length}
+use Rattle.format.specs.Laws.Rows.{added, added-twice, counted-is, row-there}
 use Rattle.kind.specs.declared.Product.{Product}
 use Rattle.kind.specs.declared.Edition.{Edition}
 use Rattle.kind.specs.declared.Edition.the-variants as Edition
@@ -38,7 +39,7 @@ use Rattle.scan.specs.declared.Scan.{Scan}
 use Rattle.scan.specs.declared.Scan.the-variants as Scan
 use Rattle.scan.specs.Scan.{scanSays}
 use Rattle.scan.specs.Laws.Scan.{noScan, scan-hands}
-use Rattle.deck.specs.Deck.{Deck, mark, version, ruleCount, ruleList, deck, baseOf, readAs, readBy, readDeck, answered, scanned}
+use Rattle.deck.specs.Deck.{Deck, mark, version, ruleCount, wide, ruleList, deck, baseOf, readAs, readBy, readDeck, answered, scanned}
 use Rattle.deck.specs.Written.{deckOf}
 
 -- ---- demand 2: "what is written reads back as given"
@@ -90,6 +91,109 @@ pub count-small : (s : List ℕ) (at : ℕ) {h : Read} {n m : ℕ} → Bytes s �
 unfolding count judged
 count-small s at bs e k = let o = seen-fits itself ruleCount s at bs e k in rw (o .1 .1) (within-is 0 256 (o .0) (o .1 .0 .1) .1)
 
+-- how wide an offset is
+pub wide-two : {v : ℕ} → v ≡ 2 → 4 ≡ wide v
+unfolding wide pick
+wide-two {v} e = rw (eq-eqb v 2 e)
+
+pub wide-none : {v : ℕ} → (v ≡ 2 → ⊥) → 0 ≡ wide v
+unfolding wide pick
+wide-none {v} h = rw (ne-eqb v 2 h)
+
+-- where the rules start, as the code works it out
+pub base-is : (v n : ℕ) {w : ℕ} → w ≡ wide v → 7 + w * n ≡ baseOf v n
+unfolding baseOf
+base-is v n e = rw e
+
+-- one rule more, one offset more
+pub base-more : (v n : ℕ) → baseOf v (n + 1) ≡ baseOf v n + wide v
+unfolding baseOf
+base-more v n = omega (arith, mul-suc (wide v) n)
+
+pub index-small : (w n : ℕ) → w ≤ 4 → n ≤ 256 → w * n ≤ 1024
+index-small w n l m = le-trans (mul-le-mul-right n l) (omega arith)
+
+-- of no bytes there are n wherever there is nothing to read
+pub none-there : (v : ℕ) (s : List ℕ) (n at : ℕ) → (v ≡ 2 → ⊥) → Read.Got at 0 ≡ seen none (each (λ i. number (wide v)) 0 n) s at
+unfolding seen each told
+none-there v s n at h =
+    let z = wide-none h in
+    let r = row-there 0 0 n (drop at s) (omega (arith, zero-mul n)) in
+    rw (← z, r .is, zero-mul, add-zero)
+
+-- and of four, as the code reads them
+pub four-there : (v : ℕ) (s : List ℕ) (n at : ℕ) {r : Read} → v ≡ 2 → r ≡ seen none (each (λ i. number 4) 0 n) s at → r ≡ seen none (each (λ i. number (wide v)) 0 n) s at
+four-there v s n at h e = e ∙ ap (λ (w : ℕ). seen none (each (λ i. number w) 0 n) s at) (wide-two h)
+
+-- an offset that is not its rule's start has four bytes
+pub off-wide : (v : ℕ) (s : List ℕ) (i p : ℕ) → offsetIs (wide v) 7 s i p ≡ false → wide v ≡ 4
+unfolding wide pick
+off-wide v s i p e = go (eqb v 2) e
+  where
+    go : (b : Bool) → offsetIs (pick b 4 0) 7 s i p ≡ false → _≡_ {A = ℕ} (pick b 4 0) 4
+    go true e = refl
+    go false e = absurd (let z : true ≡ false = sym (no-offset 7 s i p) ∙ e in let u : _≡_ {A = ℕ} 0 1 = cc in omega arith)
+
+-- o is what the offset of rule i was read as
+module _ (v : ℕ) (s : List ℕ) (i : ℕ) where
+  pub starts-none : (p : ℕ) → (v ≡ 2 → ⊥) → true ≡ offsetIs (wide v) 7 s i p
+  starts-none p h = rw (← wide-none h) (sym (no-offset 7 s i p))
+
+  module _ {o : Read} where
+    pub starts-never : {B : Type 0} {d : Fault} {q : ℕ} → v ≡ 2 → wide v * (i + 1) ≤ length s - 7 → o ≡ seen itself (number 4) s (7 + 4 * i) → o ≡ Read.No q d → B
+    starts-never h l e k = offset-never 4 7 s i e (rw (← wide-two h) at l) k
+
+    pub starts-is : (p : ℕ) {m x : ℕ} → v ≡ 2 → wide v * (i + 1) ≤ length s - 7 → p ≤ 60000 → o ≡ seen itself (number 4) s (7 + 4 * i) → o ≡ Read.Got m x → eqb x p ≡ offsetIs (wide v) 7 s i p
+    starts-is p h l g e k = rw (← wide-two h) (offset-is 4 7 s i e p (rw (← wide-two h) at l) (omega arith) k)
+
+-- ---- rule by rule behind their offsets: i were read, with t elements, and the next starts at q
+pub record Turn (p : Product) (v n : ℕ) (s : List ℕ) (i t q : ℕ) : Type 0 where
+  pub tells : added t (telling elementsIn (wide v) 7 Fault.Offset (rule p) s n i q) ≡ seen (total elementsIn) (indexed (wide v) 7 Fault.Offset (rule p) n) s 7
+  pub past : 7 ≤ q
+  pub inside : q ≤ length s
+  pub there : wide v * n ≤ length s - 7
+
+added-none : (r : Read) → added 0 r ≡ r
+added-none (Read.Got m v) = rw zero-add
+added-none (Read.No q c) = refl
+
+module _ (p : Product) (v n : ℕ) (s : List ℕ) where
+  -- x is what the offsets were read as
+  module _ {x : Read} (e : x ≡ seen none (each (λ i. number (wide v)) 0 n) s 7) where
+    pub turn-none : {c : Fault} {q : ℕ} → x ≡ Read.No q c → x ≡ seen (total elementsIn) (indexed (wide v) 7 Fault.Offset (rule p) n) s 7
+    turn-none k = index-stop elementsIn (wide v) 7 Fault.Offset (rule p) s n none e k
+
+    pub turn-start : {m u : ℕ} → 7 ≤ length s → x ≡ Read.Got m u → Turn p v n s 0 0 m
+    turn-start {m} l k =
+        let y = index-start elementsIn (wide v) 7 Fault.Offset (rule p) s n none e k in
+        record { tells = added-none (telling elementsIn (wide v) 7 Fault.Offset (rule p) s n 0 m) ∙ y .1 .1; past = omega (arith, y .0); inside = omega (arith, y .0, y .1 .0); there = y .1 .0 }
+
+    pub turn-base : {m u : ℕ} → x ≡ Read.Got m u → m ≡ baseOf v n
+    turn-base k = index-start elementsIn (wide v) 7 Fault.Offset (rule p) s n none e k .0 ∙ base-is v n refl
+
+  module _ {i t q : ℕ} (o : Turn p v n s i t q) where
+    pub turn-done : n ≤ i → Read.Got q t ≡ seen (total elementsIn) (indexed (wide v) 7 Fault.Offset (rule p) n) s 7
+    turn-done h = ap (λ (u : ℕ). Read.Got q u) (sym (add-zero t)) ∙ sym (ap (added t) (values-done elementsIn (wide v) 7 Fault.Offset (rule p) s n i q (o .past) h)) ∙ o .tells
+
+    offset-width : i < n → wide v * (i + 1) ≤ length s - 7
+    offset-width h = le-trans (mul-le-mul-left (wide v) (omega arith)) (o .there)
+
+    pub turn-offset : i < n → n ≤ 256 → length s ≤ 60000 → (i ≤ 256) × (wide v * (i + 1) ≤ length s - 7) × (q ≤ 60000)
+    turn-offset h l m = (omega arith, offset-width h, omega (arith, o .inside))
+
+    pub turn-off : i < n → offsetIs (wide v) 7 s i q ≡ false → Read.No (7 + 4 * i) Fault.Offset ≡ seen (total elementsIn) (indexed (wide v) 7 Fault.Offset (rule p) n) s 7
+    turn-off h b = ap (λ (w : ℕ). Read.No (7 + w * i) Fault.Offset) (sym (off-wide v s i q b)) ∙ sym (ap (added t) (values-off elementsIn (wide v) 7 Fault.Offset (rule p) s n i q (o .past) h b)) ∙ o .tells
+
+    -- r is what rule i was read as
+    module _ {r : Read} (h : i < n) (b : offsetIs (wide v) 7 s i q ≡ true) (e : r ≡ seen elementsIn (rule p i) s q) where
+      pub turn-stop : {c : Fault} {m : ℕ} → r ≡ Read.No m c → r ≡ seen (total elementsIn) (indexed (wide v) 7 Fault.Offset (rule p) n) s 7
+      turn-stop k = k ∙ ap (added t) (sym k) ∙ sym (ap (added t) (values-stop elementsIn (wide v) 7 Fault.Offset (rule p) s n i q (o .past) b h e k)) ∙ o .tells
+
+      pub turn-go : {m u : ℕ} → r ≡ Read.Got m u → Turn p v n s (i + 1) (t + u) m
+      turn-go {m} {u} k =
+          let y = values-go elementsIn (wide v) 7 Fault.Offset (rule p) s n i q (o .past) b h e k in
+          record { tells = sym (added-twice t u (telling elementsIn (wide v) 7 Fault.Offset (rule p) s n (i + 1) m)) ∙ sym (ap (added t) (y .1)) ∙ o .tells; past = omega (arith, o .past, y .0); inside = omega (arith, o .inside, seen-ends elementsIn (rule p i) s q e k); there = o .there }
+
 scan-answers : (a : Answer Deck) → scanSays (scanned a) ≡ answered a
 scan-answers (got k n) = refl
 scan-answers (refused c p) = refl
@@ -113,15 +217,15 @@ module _ (p : Product) (s : List ℕ) where
       sym (scan-of l (o .is) ∙ ap (λ (w : ℕ). Scan.No c w) (sym (o .ends ∙ zero-add (o .o))))
 
   -- what is told of its rules
-  rules-told : (g : List Rule → ℕ) {r : Read} → r ≡ seen (λ q. g (q .1)) (pair version (λ v. ruleList p)) s 0 → r ≡ seen (λ k. g (k .rules)) (deck p) s 0
-  unfolding deck seq
-  rules-told g e = via-is (λ k. g (k .rules)) (pair version (λ v. ruleList p)) _ _ _ s 0 e
+  rules-told : (g : List Rule → ℕ) {r : Read} → r ≡ seen (λ q. g (q .1)) (pair version (ruleList p)) s 0 → r ≡ seen (λ k. g (k .rules)) (deck p) s 0
+  unfolding deck
+  rules-told g e = via-is (λ k. g (k .rules)) (pair version (ruleList p)) _ _ _ s 0 e
 
-  deck-got : (v a n b : ℕ) (rs : List Rule) (j : ℕ) → version .read s ≡ got v a → ruleCount .read (drop a s) ≡ got n b → each (rule p) 0 n .read (drop b (drop a s)) ≡ got rs j → deck p .read s ≡ got (deckOf v rs) (a + (b + j))
-  unfolding deck ruleList counted seq via pair pairRead andThen mapped shift
+  deck-got : (v a n b : ℕ) (rs : List Rule) (j : ℕ) → version .read s ≡ got v a → ruleCount .read (drop a s) ≡ got n b → indexed (wide v) 7 Fault.Offset (rule p) n .read (drop b (drop a s)) ≡ got rs j → deck p .read s ≡ got (deckOf v rs) (a + (b + j))
+  unfolding deck ruleList counted via pair pairRead andThen mapped shift
   deck-got v a n b rs j e f g = rw (e, f, g)
 
-  -- h is what the version was read as, c the number of rules, r the rules
+  -- h is what the version was read as, c the number of rules, r the rules behind their offsets
   module _ {h : Read} where
     pub scan-version : {o : Outcome} {x : Scan} {f : Fault} {q : ℕ} → length s ≤ 60000 → h ≡ seen itself version s 0 → h ≡ Read.No q f → o ≡ endSays h → x ≡ noScan o → x ≡ scanned (readAs p s)
     scan-version l e k u w = scan-hands k u w ∙ scan-no _ l (rules-told length (pair-stop _ version _ s 0 itself e k)) k
@@ -129,11 +233,11 @@ module _ (p : Product) (s : List ℕ) where
     module _ {c : Read} {v a : ℕ} where
       pub scan-count : {o : Outcome} {x : Scan} {f : Fault} {q : ℕ} → length s ≤ 60000 → h ≡ seen itself version s 0 → h ≡ Read.Got a v → c ≡ seen itself ruleCount s a → c ≡ Read.No q f → o ≡ endSays c → x ≡ noScan o → x ≡ scanned (readAs p s)
       unfolding ruleList
-      scan-count l e k i m u w = scan-hands m u w ∙ scan-no _ l (rules-told length (pair-go _ version _ s 0 e k (counted-is length ruleCount (each (rule p) 0) _ s a (pair-stop _ ruleCount _ s a itself i m)))) m
+      scan-count l e k i m u w = scan-hands m u w ∙ scan-no _ l (rules-told length (pair-go _ version (ruleList p) s 0 e k (counted-is length ruleCount _ _ s a (pair-stop _ ruleCount _ s a itself i m)))) m
 
-      -- the rules start where the number of rules ends
-      behind-count : {n b : ℕ} → Bytes s → h ≡ seen itself version s 0 → h ≡ Read.Got a v → c ≡ seen itself ruleCount s a → c ≡ Read.Got b n → b ≡ baseOf v n
-      unfolding seen version count judged _then_ seq via bytes mark fixed pair pairWrite number baseOf
+      -- the offsets start where the number of rules ends
+      behind-count : {n b : ℕ} → Bytes s → h ≡ seen itself version s 0 → h ≡ Read.Got a v → c ≡ seen itself ruleCount s a → c ≡ Read.Got b n → b ≡ 7
+      unfolding seen version count judged _then_ seq via bytes mark fixed pair pairWrite number
       behind-count bs e k i m =
           let x = told-got 0 itself (version .read s) e k in
           let z = told-got a itself (ruleCount .read (drop a s)) i m in
@@ -141,41 +245,46 @@ module _ (p : Product) (s : List ℕ) where
           let w = ruleCount .forth (drop a s) (z .x) (z .n) (bytes-drop a s bs) (z .is) .ends in
           omega (arith, x .ends, z .ends, y, w, length-before 3 (value mark) (spelt 2 (x .x)), length-spelt 2 (x .x), length-spelt 2 (z .x))
 
-      module _ {r : Read} {n b : ℕ} where
-        totals : h ≡ seen itself version s 0 → h ≡ Read.Got a v → c ≡ seen itself ruleCount s a → c ≡ Read.Got b n → r ≡ seen (total elementsIn) (each (rule p) 0 n) s b → r ≡ seen (λ k. total elementsIn (k .rules)) (deck p) s 0
-        unfolding ruleList
-        totals e k i m f = rules-told (total elementsIn) (pair-go _ version _ s 0 e k (counted-is (total elementsIn) ruleCount (each (rule p) 0) _ s a (pair-go _ ruleCount (each (rule p) 0) s a i m f)))
+      pub rules-ready : {n b : ℕ} → Bytes s → h ≡ seen itself version s 0 → h ≡ Read.Got a v → c ≡ seen itself ruleCount s a → c ≡ Read.Got b n → (n ≤ 256) × (7 ≤ length s)
+      rules-ready bs e k i m = (count-small s a bs i m, omega (arith, behind-count bs e k i m, seen-ends itself version s 0 e k, seen-ends itself ruleCount s a i m))
 
-        pub scan-rules : {o : Outcome} {x : Scan} {f : Fault} {q : ℕ} → length s ≤ 60000 → h ≡ seen itself version s 0 → h ≡ Read.Got a v → c ≡ seen itself ruleCount s a → c ≡ Read.Got b n → r ≡ seen (total elementsIn) (each (rule p) 0 n) s b → r ≡ Read.No q f → o ≡ endSays r → x ≡ noScan o
+      module _ {r : Read} {n b : ℕ} where
+        totals : Bytes s → h ≡ seen itself version s 0 → h ≡ Read.Got a v → c ≡ seen itself ruleCount s a → c ≡ Read.Got b n → r ≡ seen (total elementsIn) (indexed (wide v) 7 Fault.Offset (rule p) n) s 7 → r ≡ seen (λ k. total elementsIn (k .rules)) (deck p) s 0
+        unfolding ruleList
+        totals bs e k i m f = rules-told (total elementsIn) (pair-go _ version (ruleList p) s 0 e k (counted-is (total elementsIn) ruleCount _ _ s a (pair-go _ ruleCount (indexed (wide v) 7 Fault.Offset (rule p)) s a i m (rw (behind-count bs e k i m) f))))
+
+        pub scan-rules : {o : Outcome} {x : Scan} {f : Fault} {q : ℕ} → Bytes s → length s ≤ 60000 → h ≡ seen itself version s 0 → h ≡ Read.Got a v → c ≡ seen itself ruleCount s a → c ≡ Read.Got b n → r ≡ seen (total elementsIn) (indexed (wide v) 7 Fault.Offset (rule p) n) s 7 → r ≡ Read.No q f → o ≡ endSays r → x ≡ noScan o
             → x ≡ scanned (readAs p s)
-        scan-rules l e k i m f o u w = scan-hands o u w ∙ scan-no _ l (totals e k i m f) o
+        scan-rules bs l e k i m f o u w = scan-hands o u w ∙ scan-no _ l (totals bs e k i m f) o
 
         module _ {t q : ℕ} where
-          scan-got : (y : Bool) → Bytes s → length s ≤ 60000 → h ≡ seen itself version s 0 → h ≡ Read.Got a v → c ≡ seen itself ruleCount s a → c ≡ Read.Got b n → r ≡ seen (total elementsIn) (each (rule p) 0 n) s b → r ≡ Read.Got q t → eqb q (length s) ≡ y
-              → scanned (readAs p s) ≡ pick y (Scan.Is v b n t) (Scan.No Fault.Over q)
+          scan-got : (y : Bool) (base : ℕ) → Bytes s → length s ≤ 60000 → h ≡ seen itself version s 0 → h ≡ Read.Got a v → c ≡ seen itself ruleCount s a → c ≡ Read.Got b n → r ≡ seen (total elementsIn) (indexed (wide v) 7 Fault.Offset (rule p) n) s 7 → r ≡ Read.Got q t → eqb q (length s) ≡ y → base ≡ baseOf v n
+              → scanned (readAs p s) ≡ pick y (Scan.Is v base n t) (Scan.No Fault.Over q)
           unfolding seen whole pick
-          scan-got y bs l e k i m f o w =
+          scan-got y base bs l e k i m f o w eb =
+              let R = indexed (wide v) 7 Fault.Offset (rule p) n in
+              let b7 = behind-count bs e k i m in
               let x = told-got 0 itself (version .read s) e k in
               let z = told-got a itself (ruleCount .read (drop a s)) i m in
-              let u = told-got b (total elementsIn) (each (rule p) 0 n .read (drop b s)) f o in
+              let u = told-got 7 (total elementsIn) (R .read (drop 7 s)) f o in
               let xv : version .read s ≡ got v a = x .is ∙ ap₂ (λ (m n : ℕ). got m n) (sym (x .tells)) (sym (x .ends ∙ zero-add (x .n))) in
               let zn : ruleCount .read (drop a s) ≡ got n (z .n) = z .is ∙ ap (λ (m : ℕ). got m (z .n)) (sym (z .tells)) in
-              let d : drop (z .n) (drop a s) ≡ drop b s = drop-drop (z .n) a s ∙ ap (λ (m : ℕ). drop m s) (sym (z .ends)) in
-              let ends : a + (z .n + u .n) ≡ q = omega (arith, z .ends, u .ends) in
-              scan-of l (deck-got v a n (z .n) (u .x) (u .n) xv zn (ap (each (rule p) 0 n .read) d ∙ u .is))
-              ∙ go y (u .x) (a + (z .n + u .n)) (ap (λ (m : ℕ). eqb m (length s)) ends ∙ w) (row-length (rule p) 0 n (drop b s) (u .x) (u .n) (u .is)) (sym (u .tells)) ends (behind-count bs e k i m)
+              let d : drop (z .n) (drop a s) ≡ drop 7 s = drop-drop (z .n) a s ∙ ap (λ (m : ℕ). drop m s) (sym (z .ends) ∙ b7) in
+              let ends : a + (z .n + u .n) ≡ q = omega (arith, z .ends, u .ends, b7) in
+              scan-of l (deck-got v a n (z .n) (u .x) (u .n) xv zn (ap (R .read) d ∙ u .is))
+              ∙ go y (u .x) (a + (z .n + u .n)) (ap (λ (m : ℕ). eqb m (length s)) ends ∙ w) (indexed-many (wide v) 7 Fault.Offset (rule p) n (drop 7 s) (u .x) (u .n) (u .is)) (sym (u .tells)) ends
             where
-              go : (y : Bool) (rs : List Rule) (d : ℕ) → eqb d (length s) ≡ y → length rs ≡ n → total elementsIn rs ≡ t → d ≡ q → b ≡ baseOf v n → scanned (pick (eqb d (length s)) (got (deckOf v rs) d) (refused Fault.Over d)) ≡ pick y (Scan.Is v b n t) (Scan.No Fault.Over q)
-              go true rs d ew en et eq eb = rw (ew, en, et, eb)
-              go false rs d ew en et eq eb = rw (ew, eq)
+              go : (y : Bool) (rs : List Rule) (d : ℕ) → eqb d (length s) ≡ y → length rs ≡ n → total elementsIn rs ≡ t → d ≡ q → scanned (pick (eqb d (length s)) (got (deckOf v rs) d) (refused Fault.Over d)) ≡ pick y (Scan.Is v base n t) (Scan.No Fault.Over q)
+              go true rs d ew en et eq = rw (ew, en, et, eb)
+              go false rs d ew en et eq = rw (ew, eq)
 
-          pub scan-over : Bytes s → length s ≤ 60000 → h ≡ seen itself version s 0 → h ≡ Read.Got a v → c ≡ seen itself ruleCount s a → c ≡ Read.Got b n → r ≡ seen (total elementsIn) (each (rule p) 0 n) s b → r ≡ Read.Got q t → (q ≡ length s → ⊥) → Scan.No Fault.Over q ≡ scanned (readAs p s)
+          pub scan-over : Bytes s → length s ≤ 60000 → h ≡ seen itself version s 0 → h ≡ Read.Got a v → c ≡ seen itself ruleCount s a → c ≡ Read.Got b n → r ≡ seen (total elementsIn) (indexed (wide v) 7 Fault.Offset (rule p) n) s 7 → r ≡ Read.Got q t → (q ≡ length s → ⊥) → Scan.No Fault.Over q ≡ scanned (readAs p s)
           unfolding pick
-          scan-over bs l e k i m f o w = sym (scan-got false bs l e k i m f o (ne-eqb q (length s) w))
+          scan-over bs l e k i m f o w = sym (scan-got false _ bs l e k i m f o (ne-eqb q (length s) w) refl)
 
-          pub scan-is : Bytes s → length s ≤ 60000 → h ≡ seen itself version s 0 → h ≡ Read.Got a v → c ≡ seen itself ruleCount s a → c ≡ Read.Got b n → r ≡ seen (total elementsIn) (each (rule p) 0 n) s b → r ≡ Read.Got q t → q ≡ length s → Scan.Is v b n t ≡ scanned (readAs p s)
+          pub scan-is : {base : ℕ} → Bytes s → length s ≤ 60000 → h ≡ seen itself version s 0 → h ≡ Read.Got a v → c ≡ seen itself ruleCount s a → c ≡ Read.Got b n → r ≡ seen (total elementsIn) (indexed (wide v) 7 Fault.Offset (rule p) n) s 7 → r ≡ Read.Got q t → q ≡ length s → base ≡ baseOf v n → Scan.Is v base n t ≡ scanned (readAs p s)
           unfolding pick
-          scan-is bs l e k i m f o w = sym (scan-got true bs l e k i m f o (eq-eqb q (length s) w))
+          scan-is {base} bs l e k i m f o w eb = sym (scan-got true base bs l e k i m f o (eq-eqb q (length s) w) eb)
 
 -- an edition's number first
 pub scan-by : (edition : ℕ) (s : List ℕ) {e : Edition} {p : Product} {r : Scan} → e ≡ editionOf edition → e ≡ Edition.Of p → r ≡ scanned (readAs p s) → (r ≡ scanned (readDeck edition s)) × (scanSays r ≡ answered (readDeck edition s))
@@ -188,7 +297,7 @@ scan-none edition s f h = rw (← f, h) (refl, refl)
 
 -- ---- no place that a read answers is above 60,000
 pub deck-small : (p : Product) (k : Deck) → deck p .Fit k → length (k .rules) ≤ 256
-unfolding deck ruleList counted seq via pair count judged
+unfolding deck ruleList counted via pair count judged
 deck-small p k f = within-is 0 256 (length (k .rules)) (f .0 .1 .0 .0 .1) .1
 
 pub place-small : (edition : ℕ) (s : List ℕ) → Bytes s → placeOf (answered (readDeck edition s)) ≤ 60000
@@ -213,10 +322,10 @@ place-small edition s bs = by (editionOf edition)
 
 -- ---- a sound deck is what stands before its rules, and they
 pub deck-rules : (p : Product) (k : Deck) → deck p .Fit k → AllFit (rule p) 0 (k .rules)
-unfolding deck ruleList counted seq via pair each
+unfolding deck ruleList counted indexed via pair
 deck-rules p k f = f .0 .1 .0 .1 .1
 
 -- ---- where a case is computed
 unfoldable pub computingDecks : Type 0
-unfolding computingRules mark version ruleList deck readAs readBy readDeck
+unfolding computingRules onward valuesRead indexedRead indexWrite indexedWrite indexed mark version wide ruleList deck readAs readBy readDeck
 computingDecks = Unit {0}

@@ -20,7 +20,8 @@ use Rattle.format.specs.Laws.Written.{Held}
 use Rattle.format.specs.Laws.Back.{Where, back-got, back-no}
 use Rattle.rule.specs.Rule.{Rule}
 use Rattle.rule.specs.Laws.Places.{rule-parts}
-use Rattle.steps.specs.Laws.Steps.{nameRead, name-end, name-got, name-never, Reached}
+use Rattle.steps.specs.Laws.Steps.{nameRead, name-end, name-got, name-never}
+use Rattle.steps.specs.Laws.Starts.{Starts}
 use Rattle.asked.specs.Laws.Asked.{Tells, finds, finds-never}
 use Rattle.fixed.specs.declared.Fielded.{Fielded}
 use Rattle.fixed.specs.declared.Fielded.the-variants.{Is, No}
@@ -100,22 +101,22 @@ module _ (s : List ℕ) (e a : ℕ) {z₁ : Read} (f₁ : z₁ ≡ seen itself (
               same (rw i (mod-eq-of-lt j)) (ap (λ (v : ℕ). eqb v 1) (four s e f₁ g₁ refl h₁ .0) ∙ eqb-bit (r .on)) (four s p₁ f₂ g₂ (four s e f₁ g₁ refl h₁ .1 .0) h₂ .1 .1) (four s p₂ f₃ g₃ (at₂ h₁ h₂) h₃ .1 .1) (four s p₃ f₄ g₄ (at₃ h₁ h₂ h₃) h₄ .1 .1) (four s p₄ f₅ g₅ (at₄ h₁ h₂ h₃ h₄) h₅ .1 .1)
 
 -- r is what was told of the rule's start, g what its signature was read as, t its name
-module _ (s : List ℕ) (base k : ℕ) (v : Fielded) {r : Read} where
-  pub fixed-unreached : {c : Fault} {q : ℕ} → Reached s base k k r → r ≡ Read.No q c → Tells s base k fixedAt v
-  fixed-unreached w i p = finds-never p s base k fixedAt v w i
+module _ (version : ℕ) (s : List ℕ) (base k : ℕ) (v : Fielded) {r : Read} where
+  pub fixed-unreached : {c : Fault} {q : ℕ} → Starts s version base k r → r ≡ Read.No q c → Tells version s base k fixedAt v
+  fixed-unreached w i p = finds-never p version s base k fixedAt v w i
 
   module _ {u at : ℕ} where
-    pub fixed-unsigned : {g : Read} {c : Fault} {q : ℕ} → Reached s base k k r → r ≡ Read.Got at u → g ≡ seen itself (number 4) s at → g ≡ Read.No q c → Tells s base k fixedAt v
+    pub fixed-unsigned : {g : Read} {c : Fault} {q : ℕ} → Starts s version base k r → r ≡ Read.Got at u → g ≡ seen itself (number 4) s at → g ≡ Read.No q c → Tells version s base k fixedAt v
     unfolding Where
-    fixed-unsigned w i f h p = finds p s base k fixedAt v w i (λ x b. back-no itself (number 4) s at (rule-parts p k s at x (b .0) (b .1) .signed .1) f h)
+    fixed-unsigned w i f h p = finds p version s base k fixedAt v w i (λ x b. back-no itself (number 4) s at (rule-parts p k s at x (b .0) (b .1) .signed .1) f h)
 
-    pub fixed-unnamed : {t : Read} {c : Fault} {q : ℕ} → Reached s base k k r → r ≡ Read.Got at u → t ≡ nameRead s at → t ≡ Read.No q c → Tells s base k fixedAt v
+    pub fixed-unnamed : {t : Read} {c : Fault} {q : ℕ} → Starts s version base k r → r ≡ Read.Got at u → t ≡ nameRead s at → t ≡ Read.No q c → Tells version s base k fixedAt v
     unfolding Where
-    fixed-unnamed w i f h p = finds p s base k fixedAt v w i (λ x b. name-never s at f h p k x b)
+    fixed-unnamed w i f h p = finds p version s base k fixedAt v w i (λ x b. name-never s at f h p k x b)
 
-    pub fixed-is : {g t : Read} {a o n e : ℕ} → Reached s base k k r → r ≡ Read.Got at u → g ≡ seen itself (number 4) s at → g ≡ Read.Got o a → t ≡ nameRead s at → t ≡ Read.Got e n → Kept s e a v → Tells s base k fixedAt v
+    pub fixed-is : {g t : Read} {a o n e : ℕ} → Starts s version base k r → r ≡ Read.Got at u → g ≡ seen itself (number 4) s at → g ≡ Read.Got o a → t ≡ nameRead s at → t ≡ Read.Got e n → Kept s e a v → Tells version s base k fixedAt v
     unfolding Where Kept number
-    fixed-is w i f h j l m p = finds p s base k fixedAt v w i (λ x b.
+    fixed-is w i f h j l m p = finds p version s base k fixedAt v w i (λ x b.
         let y = rule-parts p k s at x (b .0) (b .1) in
         let z = name-got s at j l ∙ name-end s at p k x b in
         m x (back-got itself (number 4) s at (y .signed .1) f h .0) (y .signed .1 .fit) (rw z (y .switched)) (rw z (y .two)) (rw z (y .three)) (rw z (y .four)) (rw z (y .five)))

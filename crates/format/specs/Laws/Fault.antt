@@ -1,13 +1,13 @@
 -- Laws of ../Fault.antt: one number both ways; and a refusal handed on in another type.
-use Prim.Native.Nat.{ℕ, _+_, _-_, _/_, _%_, _<_}
+use Prim.Native.Nat.{ℕ, _+_, _-_, _/_, _%_, _≤_, _<_}
 use native.Mathlib.Omega.{arith}
 use mathlib.Core.Path.{_≡_, refl, sym, ap, ap₂, _∙_}
 use mathlib.Core.List.{List, [], _∷_}
-use lib.Dec.{lit<, eqb, ltb}
+use lib.Dec.{lit<, leb, eqb, ltb}
 use lib.ListN.{getD}
-use borrow.Author.Tests.{ne-eqb, lt-ltb, le-ltb}
+use borrow.Author.Tests.{le-leb, lt-leb, ne-eqb, lt-ltb, le-ltb}
 use Rattle.format.specs.declared.Fault.{Fault}
-use Rattle.format.specs.declared.Fault.the-variants.{Edition, Long, Cut, Mark, Version, Count, Form, Field, Unknown, Foreign, Date, Size, Over, Table, Stated, Absent, Text, Rules, Large, Room, Full, Last}
+use Rattle.format.specs.declared.Fault.the-variants.{Edition, Long, Cut, Mark, Version, Count, Form, Field, Unknown, Foreign, Date, Size, Over, Table, Stated, Absent, Text, Rules, Large, Room, Full, Last, Offset}
 use Rattle.format.specs.declared.Outcome.{Outcome}
 use Rattle.format.specs.declared.Outcome.the-variants.{Done, No, Given}
 use Rattle.format.specs.declared.Read.{Read}
@@ -36,12 +36,24 @@ inGiven (Given c p) = Given c p
 
 -- ---- one number, both ways
 
+-- the number of row r of the table: they follow one another up to 22
+unfoldable pub rowNumber : ℕ → ℕ
+rowNumber r = pick (leb r 22) r 29
+
+pub row-low : {r : ℕ} → r ≤ 22 → rowNumber r ≡ r
+unfolding rowNumber pick
+row-low {r} h = rw (le-leb r 22 h)
+
+pub row-high : {r : ℕ} → 22 < r → rowNumber r ≡ 29
+unfolding rowNumber pick
+row-high {r} h = rw (lt-leb r 22 h)
+
 -- the fault of a number, and the outcome of a code and a place
 abbrev pub faults : List Fault
 faults = Edition ∷ Long ∷ Cut ∷ Mark ∷ Version ∷ Count ∷ Form ∷ Field ∷ Unknown ∷ Foreign ∷ Date ∷ Size ∷ Over ∷ Table ∷ Stated ∷ Absent ∷ Text ∷ Rules ∷ Large ∷ Room ∷ Full ∷ Last ∷ []
 
 abbrev pub faultOf : ℕ → Fault
-faultOf n = getD faults (n - 1) Edition
+faultOf n = pick (eqb n 29) Offset (getD faults (n - 1) Edition)
 
 abbrev pub outcomeOf : ℕ → ℕ → Outcome
 outcomeOf n q = pick (eqb n 0) (Done q) (pick (ltb n 32) (No (faultOf n) q) (Given (faultOf (n - 32)) q))
@@ -53,6 +65,7 @@ pub record Numbered (c : Fault) : Type 0 where
   pub fault : faultOf (numberOf c) ≡ c
 
 pub numbered : (c : Fault) → Numbered c
+unfolding pick
 numbered Edition = record { some = lit< tt; small = lit< tt; fault = refl }
 numbered Long = record { some = lit< tt; small = lit< tt; fault = refl }
 numbered Cut = record { some = lit< tt; small = lit< tt; fault = refl }
@@ -75,6 +88,7 @@ numbered Large = record { some = lit< tt; small = lit< tt; fault = refl }
 numbered Room = record { some = lit< tt; small = lit< tt; fault = refl }
 numbered Full = record { some = lit< tt; small = lit< tt; fault = refl }
 numbered Last = record { some = lit< tt; small = lit< tt; fault = refl }
+numbered Offset = record { some = lit< tt; small = lit< tt; fault = refl }
 
 pub number-small : (c : Fault) → numberOf c < 32
 number-small c = numbered c .small

@@ -78,11 +78,11 @@ added-none : (r : Read) → added 0 r ≡ r
 added-none (Got m v) = rw zero-add
 added-none (No p c) = refl
 
-added-twice : (t v : ℕ) (r : Read) → added t (added v r) ≡ added (t + v) r
+pub added-twice : (t v : ℕ) (r : Read) → added t (added v r) ≡ added (t + v) r
 added-twice t v (Got m w) = rw add-assoc
 added-twice t v (No p c) = refl
 
-told-added : {A : Type 0} (p v : ℕ) (h : A → ℕ) (q : Answer A) → told p (λ x. v + h x) q ≡ added v (told p h q)
+pub told-added : {A : Type 0} (p v : ℕ) (h : A → ℕ) (q : Answer A) → told p (λ x. v + h x) q ≡ added v (told p h q)
 unfolding told
 told-added p v h (got x m) = refl
 told-added p v h (refused c o) = refl
@@ -148,11 +148,11 @@ pub record Short (k i n : ℕ) (t : List ℕ) : Type 0 where
   pub is : eachRead (λ j. number k) i n t ≡ refused Cut place
 
 module _ (k : ℕ) where
-  number-there : (t : List ℕ) → k ≤ length t → number k .read t ≡ got (value (take k t)) k
+  pub number-there : (t : List ℕ) → k ≤ length t → number k .read t ≡ got (value (take k t)) k
   unfolding number numberRead pick
   number-there t h = rw (le-leb k (length t) h)
 
-  number-cut : (t : List ℕ) → length t < k → number k .read t ≡ refused Cut 0
+  pub number-cut : (t : List ℕ) → length t < k → number k .read t ≡ refused Cut 0
   unfolding number numberRead pick
   number-cut t h = rw (lt-leb k (length t) h)
 

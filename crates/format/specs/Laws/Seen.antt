@@ -6,16 +6,17 @@ use mathlib.Core.Path.{_≡_, refl, sym, ap, _∙_}
 use mathlib.Core.Bool.{Bool, true, false}
 use mathlib.Core.List.{List}
 use lib.ListN.{length, take, drop, length-drop}
-use lib.Seq.{drop-drop}
+use lib.Seq.{drop-drop, length-take-le}
 use lib.Dec.{leb, eqb}
-use borrow.Author.Tests.{lt-leb, le-leb, eq-eqb, ne-eqb}
+use borrow.Author.Tests.{leb-true, lt-leb, le-leb, eq-eqb, ne-eqb}
 use Rattle.format.specs.declared.Fault.{Fault}
 use Rattle.format.specs.declared.Fault.the-variants.{Cut, Count, Field}
 use Rattle.format.specs.declared.Read.{Read}
 use Rattle.format.specs.declared.Read.the-variants.{Got, No}
-use Rattle.format.specs.Format.{Answer, got, refused, shift, mapped, andThen, pick, Format}
+use Rattle.format.specs.Format.{Answer, got, refused, shift, mapped, andThen, pick, Format, Bytes}
+use Rattle.format.specs.Laws.Format.{bytes-drop, bytes-take, apart}
 use Rattle.format.specs.ReadWrite.{pairRead, judgeOf, judge, home, numberRead, within, bit, value}
-use Rattle.format.specs.Laws.ReadWrite.{bit-eqb, value-join}
+use Rattle.format.specs.Laws.ReadWrite.{bit-eqb, value-small, value-join}
 use Rattle.format.specs.Combinators.{pair, seq, _then_, judged, via, atStart, nothing, number, count, fixed, flag}
 
 -- an answer as the code gives it: what f tells of the value, and the place past it
@@ -310,15 +311,54 @@ module _ (j k : ℕ) (first last : ℕ) (c : Fault) (s : List ℕ) (at : ℕ) {x
   parts-got ex ey h p q = rw (eq-eqb (x + 256 ^ j * y) (first + 256 ^ j * last) (rw (p, q))) at (both ex ey h)
 
   -- the sums are equal only where the parts are
+  same-parts : x + 256 ^ j * y ≡ first + 256 ^ j * last → x < 256 ^ j → first < 256 ^ j → (x ≡ first) × (y ≡ last)
+  same-parts e m n =
+      let f : x ≡ first = sym (add-mul-mod-self-left x (256 ^ j) y ∙ mod-eq-of-lt m) ∙ ap (λ (w : ℕ). w % 256 ^ j) e ∙ add-mul-mod-self-left first (256 ^ j) last ∙ mod-eq-of-lt n in
+      let l : 256 ^ j * y ≡ 256 ^ j * last = omega arith in
+      (f, sym (mul-div-right y (omega arith)) ∙ ap (λ (w : ℕ). w / 256 ^ j) l ∙ mul-div-right last (omega arith))
+
   pub parts-off : x ≡ value (take j (drop at s)) → y ≡ value (take k (drop (at + j) s)) → at + (j + k) ≤ length s → x < 256 ^ j → first < 256 ^ j → (x ≡ first → y ≡ last → ⊥)
       → No at c ≡ seen none (fixed (j + k) (first + 256 ^ j * last) c) s at
   unfolding pick
   parts-off ex ey h m n differ =
-      let same : x + 256 ^ j * y ≡ first + 256 ^ j * last → ⊥ = λ e.
-      let f : x ≡ first = sym (add-mul-mod-self-left x (256 ^ j) y ∙ mod-eq-of-lt m) ∙ ap (λ (w : ℕ). w % 256 ^ j) e ∙ add-mul-mod-self-left first (256 ^ j) last ∙ mod-eq-of-lt n in
-      let l : 256 ^ j * y ≡ 256 ^ j * last = omega arith in
-      differ f (sym (mul-div-right y (omega arith)) ∙ ap (λ (w : ℕ). w / 256 ^ j) l ∙ mul-div-right last (omega arith)) in
+      let same : x + 256 ^ j * y ≡ first + 256 ^ j * last → ⊥ = λ e. let w = same-parts e m n in differ (w .0) (w .1) in
       rw (ne-eqb (x + 256 ^ j * y) (first + 256 ^ j * last) same) at (both ex ey h)
+
+-- a number that was read is there
+took : (k : ℕ) (t : List ℕ) {x n : ℕ} → number k .read t ≡ got x n → (k ≤ length t) × ((x ≡ value (take k t)) × (n ≡ k))
+unfolding number numberRead pick
+took k t {x} {n} e = go (leb k (length t)) refl e
+  where
+    go : (b : Bool) → leb k (length t) ≡ b → pick b (got (value (take k t)) k) (refused Cut 0) ≡ got x n → (k ≤ length t) × ((x ≡ value (take k t)) × (n ≡ k))
+    go true h e = (leb-true k (length t) h, (cc, cc))
+    go false h e = apart (sym e)
+
+small-there : (k : ℕ) (t : List ℕ) → Bytes t → k ≤ length t → value (take k t) < 256 ^ k
+small-there k t b h = rw (length-take-le k t h) at (value-small (take k t) (bytes-take k t b))
+
+pub number-got : (k : ℕ) (s : List ℕ) (at : ℕ) {r : Read} {m v : ℕ} → Bytes s → 0 < k → r ≡ seen itself (number k) s at → r ≡ Got m v → (m ≤ length s) × (v < 256 ^ k)
+unfolding seen
+number-got k s at b some e h =
+    let i = told-got at itself (number k .read (drop at s)) e h in
+    let t = took k (drop at s) (i .is) in
+    (omega (arith, i .ends, t .0, t .1 .1, length-drop at s), rw (i .tells, t .1 .0) (small-there k (drop at s) (bytes-drop at s b) (t .0)))
+
+-- two constants, one behind the other, that the code reads at once where they are right
+pub at-once : (j k first last : ℕ) (c : Fault) (s : List ℕ) (at : ℕ) {r : Read} {m v : ℕ} → Bytes s → 0 < k → first < 256 ^ j → r ≡ seen itself (number (j + k)) s at → r ≡ Got m v → v ≡ first + 256 ^ j * last
+    → Got m 0 ≡ seen none (fixed j first c then fixed k last c) s at
+unfolding seen
+at-once j k first last c s at {m = m} b some l e h o =
+    let i = told-got at itself (number (j + k) .read (drop at s)) e h in
+    let t = took (j + k) (drop at s) (i .is) in
+    let x = value (take j (drop at s)) in
+    let y = value (take k (drop (at + j) s)) in
+    let long : at + (j + k) ≤ length s = omega (arith, t .0, length-drop at s) in
+    let is : x + 256 ^ j * y ≡ first + 256 ^ j * last = value-join j k s at refl refl (omega arith) ∙ sym (i .tells ∙ t .1 .0) ∙ o in
+    let p = same-parts j k first last c s at is (small-there j (drop at s) (bytes-drop at s b) (omega (arith, length-drop at s))) l in
+    let f = number-is j s at refl (omega arith) in
+    let g = number-is k s (at + j) refl (omega arith) in
+    let end : m ≡ at + j + k = omega (arith, i .ends, t .1 .1) in
+    then-go none (fixed j first c) (fixed k last c) s at (fixed-is j first c s at f (fixed-got at first c refl (p .0))) refl (rw end (fixed-is k last c s (at + j) g (fixed-got (at + j) last c refl (p .1))))
 
 pub fixed-cut : (k v : ℕ) (c : Fault) (s : List ℕ) (at : ℕ) → length s - at < k → No at Cut ≡ seen none (fixed k v c) s at
 unfolding judgedFixed

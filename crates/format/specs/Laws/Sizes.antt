@@ -1,5 +1,5 @@
 -- A body behind its size, as the code reads it.
-use Prim.Native.Nat.{ℕ, _+_, _-_, _<_, _≤_}
+use Prim.Native.Nat.{ℕ, _+_, _-_}
 use native.Mathlib.Nat.{add-assoc, add-zero}
 use native.Mathlib.Omega.{arith}
 use mathlib.Core.Path.{_≡_, refl, sym, ap, _∙_}
@@ -60,26 +60,13 @@ module _ {A : Type 0} (g : A → ℕ) (c : Fault) (a : Format A) (s : List ℕ) 
       let ez : number 4 .read (drop at s) ≡ got z (i .n) = i .is ∙ ap (λ (o : ℕ). got o (i .n)) (sym (i .tells)) in
       same-pick (No at c) (right-size p z q (j .n) t (j .ends) b) (j .tells) eq ∙ whole-size z (i .n) (j .n) (j .x) ez eb
 
-  pub sized-is : {r x out : Read} {z p v q : ℕ} {t : Bool} → r ≡ seen itself (number 4) s at → r ≡ Got p z → x ≡ seen g a s p → x ≡ Got q v → t ≡ eqb (p + z) q → t ≡ true
-      → out ≡ Got q v → out ≡ seen g (sized c a) s at
-  unfolding pick
-  sized-is {t = t} e h f k b y o = o ∙ (rw y at (sized-tested t e h f k b))
+  module _ {r x : Read} {z p v q : ℕ} (e : r ≡ seen itself (number 4) s at) (h : r ≡ Got p z) (f : x ≡ seen g a s p) (k : x ≡ Got q v) where
+    pub sized-is : p + z ≡ q → Got q v ≡ seen g (sized c a) s at
+    unfolding pick
+    sized-is y = sized-tested true e h f k (sym (eq-eqb (p + z) q y))
 
-  pub sized-no : {r x : Read} {z p v q : ℕ} {t : Bool} → r ≡ seen itself (number 4) s at → r ≡ Got p z → x ≡ seen g a s p → x ≡ Got q v → t ≡ eqb (p + z) q → t ≡ false
-      → No at c ≡ seen g (sized c a) s at
-  unfolding pick
-  sized-no {t = t} e h f k b y = rw y at (sized-tested t e h f k b)
+    pub sized-no : (p + z ≡ q → ⊥) → No at c ≡ seen g (sized c a) s at
+    unfolding pick
+    sized-no y = sized-tested false e h f k (sym (ne-eqb (p + z) q y))
 
 pub ruleset sizing = (refl, sized-stop, sized-halt, sized-is, sized-no)
-
--- whether z bytes lie between two places
-module _ (p q z : ℕ) where
-  pub spans-not : q < p → false ≡ eqb (p + z) q
-  spans-not h = sym (ne-eqb (p + z) q (λ e. omega arith))
-
-  pub spans-is : p ≤ q → eqb (q - p) z ≡ eqb (p + z) q
-  spans-is h = go (eqb (q - p) z) refl
-    where
-      go : (t : Bool) → eqb (q - p) z ≡ t → t ≡ eqb (p + z) q
-      go true e = sym (eq-eqb (p + z) q (omega (arith, eqb-true (q - p) z e)))
-      go false e = sym (ne-eqb (p + z) q (λ w. eqb-false (q - p) z e (omega arith)))

@@ -5,7 +5,7 @@ use Rattle.line.proofs.deck.Statement.{statement}
 use Rattle.line.proofs.deck.Tie as tie
 
 returns : tie.Need-returns
-returns c = lined-as (c .numbers .ensures) (deck-is _)
+returns c = lined-as (c .numbers .ensures) (deck-is _ _)
 
 pub deck-spec : {M : Type 1} → statement M
 deck-spec = tie.close (tie.spec (λ c. search needs) (λ c κs. search needs) returns)

@@ -23,9 +23,9 @@ pub numbers-is : (word : List ℕ) (m n : ℕ) → ((word ++ spaced (decimal m))
 unfolding numbersLine
 numbers-is word m n = simp append-assoc
 
-pub deck-is : (bytes : ℕ) → numbersLine (0x44 ∷ 0x45 ∷ 0x43 ∷ 0x4B ∷ []) 1 bytes ≡ deckLine bytes
+pub deck-is : (version bytes : ℕ) → numbersLine (0x44 ∷ 0x45 ∷ 0x43 ∷ 0x4B ∷ []) version bytes ≡ deckLine version bytes
 unfolding numbersLine deckLine
-deck-is bytes = refl
+deck-is version bytes = refl
 
 pub end-is : (rules elements : ℕ) → numbersLine (0x45 ∷ 0x4E ∷ 0x44 ∷ []) rules elements ≡ endLine rules elements
 unfolding numbersLine endLine

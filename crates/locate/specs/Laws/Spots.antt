@@ -25,7 +25,8 @@ use Rattle.deck.specs.Laws.Deck.{read-writes-back}
 use Rattle.spot.specs.declared.Spot.{Spot}
 use Rattle.spot.specs.declared.Spot.the-variants as Spot
 use Rattle.spot.specs.Laws.Spot.{noSpot}
-use Rattle.steps.specs.Laws.Steps.{Sound, sound-read, Here, here, here-at, Follows, follows-got, follows-never, Reached, reached-is, reached-never, start-past}
+use Rattle.steps.specs.Laws.Steps.{Sound, sound-read, Here, here, here-at, Follows, follows-got, follows-never, start-past}
+use Rattle.steps.specs.Laws.Starts.{Starts, starts-is, starts-never}
 use Rattle.locate.specs.Laws.Located.{located}
 
 -- whatever n rules a sound deck has, w is where rule k stands
@@ -39,13 +40,13 @@ module _ (s : List ℕ) (v b n k : ℕ) where
 
   -- f is what its start was told as, e its end
   module _ {f : Read} where
-    pub spots-unreached : (w : Spot) {c : Fault} {q : ℕ} → k < n → Reached s b k k f → f ≡ No q c → Spots s v b n k w
+    pub spots-unreached : (w : Spot) {c : Fault} {q : ℕ} → k < n → Starts s v b k f → f ≡ No q c → Spots s v b n k w
     unfolding Spots
-    spots-unreached w l g h p rs o eb x = reached-never s b k k g p v rs o (rw x at eb) (omega arith) h
+    spots-unreached w l g h p rs o eb x = starts-never s v b k g p rs o (rw x at eb) (omega arith) h
 
-    module _ {u a : ℕ} (l : k < n) (g : Reached s b k k f) (h : f ≡ Got a u) where
+    module _ {u a : ℕ} (l : k < n) (g : Starts s v b k f) (h : f ≡ Got a u) where
       stands : (p : Product) (rs : List Rule) → Sound p v s rs → b ≡ baseOf v n → n ≡ length rs → (a ≡ startOf v rs k) × Here p v s rs k
-      stands p rs o eb x = (reached-is s b k k g p v rs o (rw x at eb) (omega arith) h, here p v s rs k o (omega arith))
+      stands p rs o eb x = (starts-is s v b k g p rs o (rw x at eb) (omega arith) h, here p v s rs k o (omega arith))
 
       pub spots-unended : (w : Spot) {e : Read} {c : Fault} {q : ℕ} → Follows s a e → e ≡ No q c → Spots s v b n k w
       unfolding Spots

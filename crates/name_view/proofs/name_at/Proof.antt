@@ -6,13 +6,13 @@ use Rattle.name_view.proofs.name_at.Statement.{statement}
 use Rattle.name_view.proofs.name_at.Tie as tie
 
 returns : tie.Need-returns
-returns c = (name-unreached _ _ _ _ (c .before .before .before .before .start-of .ensures) (c .before .before .enum-told .given .1), no-inside _ _ (c .no-view .ensures))
+returns c = (name-unreached _ _ _ _ _ (c .before .before .before .before .rule-start .ensures) (c .before .before .enum-told .given .1), no-inside _ _ (c .no-view .ensures))
 
 returns-2 : tie.Need-returns-2
-returns-2 c = (name-cut _ _ _ _ (c .before .before .before .before .before .start-of .ensures) (c .before .before .before .r .given .1) (c .before .left .ensures) (omega arith), tt)
+returns-2 c = (name-cut _ _ _ _ _ (c .before .before .before .before .before .rule-start .ensures) (c .before .before .before .r .given .1) (c .before .left .ensures) (omega arith), tt)
 
 returns-3 : tie.Need-returns-3
-returns-3 c = (name-is _ _ _ _ (c .before .before .before .before .before .before .before .start-of .ensures) (c .before .before .before .before .before .r .given .1) (c .before .string-at .ensures) (c .units-of .ensures), units-inside _ _ (c .units-of .ensures))
+returns-3 c = (name-is _ _ _ _ _ (c .before .before .before .before .before .before .before .rule-start .ensures) (c .before .before .before .before .before .r .given .1) (c .before .string-at .ensures) (c .units-of .ensures), units-inside _ _ (c .units-of .ensures))
 
 pub name-at-spec : {M : Type 1} → statement M
 name-at-spec =

@@ -16,12 +16,13 @@ use Rattle.format.specs.declared.Read.the-variants as Read
 use Rattle.format.specs.Format.{Answer, got, refused, pick}
 use Rattle.format.specs.Laws.Written.{Held}
 use Rattle.kind.specs.declared.Product.{Product}
+use Rattle.kind.specs.declared.Product.the-variants.{Studio}
 use Rattle.element.specs.Element.{Element}
 use Rattle.rule.specs.Rule.{Rule, rule}
 use Rattle.rule.specs.Places.{enabledAt}
 use Rattle.rule.specs.Laws.Parts.{front, back, rule-is}
 use Rattle.deck.specs.Written.{deckOf, written, startOf}
-use Rattle.deck.specs.Laws.Written.{written-is, lead-same, before, before-is, rules, rules-cons}
+use Rattle.deck.specs.Laws.Written.{written-is, lead, lead-kept, before, before-is, rules, rules-cons}
 use Rattle.buffer.specs.Laid.{laid}
 use Rattle.room.specs.Room.{roomFor}
 use Rattle.room.specs.Laws.Room.{room-is, roomy}
@@ -60,11 +61,16 @@ pub replaced-long : (rs later : List Rule) (k : ℕ) (r x : Rule) → drop k rs 
 replaced-long rs later k r x e =
     omega (arith, length-append (take k rs) (x ∷ later), length-append (take k rs) (drop k rs), ap length e, ap length (take-append-drop k rs))
 
-pub written-here : (v : ℕ) (rs later : List Rule) (k : ℕ) (r x : Rule) → drop k rs ≡ r ∷ later → k < length rs
+-- behind what stood before its rules
+pub rules-here : (v : ℕ) (rs later : List Rule) (k : ℕ) (x : Rule) → k < length rs → lead v rs ++ rules 0 (take k rs ++ (x ∷ later)) ≡ before v rs k ++ (front x ++ (back k (x .elements) ++ rules (k + 1) later))
+rules-here v rs later k x l = rw rules-cons at (before-is v rs k (x ∷ later) (omega arith))
+
+-- x being as long, or the last
+pub written-here : (v : ℕ) (rs later : List Rule) (k : ℕ) (r x : Rule) → drop k rs ≡ r ∷ later → k < length rs → (0 < length later → length (rule Studio k .write x) ≡ length (rule Studio k .write r))
     → written v (take k rs ++ (x ∷ later)) ≡ before v rs k ++ (front x ++ (back k (x .elements) ++ rules (k + 1) later))
-written-here v rs later k r x e l =
+written-here v rs later k r x e l h =
     let xs = take k rs ++ (x ∷ later) in
-    written-is v xs ∙ ap (λ (t : List ℕ). t ++ rules 0 xs) (lead-same v rs xs (replaced-long rs later k r x e)) ∙ (rw rules-cons at (before-is v rs k (x ∷ later) (omega arith)))
+    written-is v xs ∙ ap (λ (t : List ℕ). t ++ rules 0 xs) (lead-kept v rs k later r x e (replaced-long rs later k r x e) h) ∙ rules-here v rs later k x l
 
 -- ---- what was judged
 pub at-rule : (rs : List Rule) (k : ℕ) {r : Rule} {later : List Rule} (f : Rule → List Rule → Plan (List Rule)) → drop k rs ≡ r ∷ later → atRule (drop k rs) f ≡ f r later

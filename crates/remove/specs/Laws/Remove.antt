@@ -25,7 +25,7 @@ use Rattle.rule.specs.Rule.{Rule, rule}
 use Rattle.rule.specs.Places.{enabledAt}
 use Rattle.rule.specs.Laws.Parts.{front, front-long, back, back-long, sizeOf, headBytes, inner}
 use Rattle.deck.specs.Deck.{baseOf}
-use Rattle.deck.specs.Written.{written, startOf}
+use Rattle.deck.specs.Written.{deckOf, written, startOf}
 use Rattle.deck.specs.Laws.Written.{lead, lead-long, written-less, before, before-is, rules, rules-cons, rules-later, start-first}
 use Rattle.buffer.specs.Laid.{putIn}
 use Rattle.buffer.specs.Laws.Laid.{opened, moved, down}
@@ -36,6 +36,9 @@ use Rattle.spot.specs.declared.Spot.the-variants as Spot
 use Rattle.steps.specs.Laws.Steps.{Here, here, nameRead, nameEnd, name-end, size-read, size-is}
 use Rattle.plan.specs.Edit.{remove, edited, become}
 use Rattle.plan.specs.Laws.Found.{Makes, Does, Sits, sits-within, found, ground}
+use Rattle.plan.specs.Laws.Handed.{hand-remove}
+use Rattle.plan.specs.Laws.Fits.{fits-deck}
+use Rattle.plan.specs.Laws.Kept.{edited-fits}
 use Rattle.plan.specs.Laws.Finish.{Finishes, made-finished}
 use Rattle.plan.specs.Laws.Makes.{here-in, name-ends, name-there, at-rule, no-rule, made-no}
 use Rattle.head.specs.Laws.Head.{head-long, head-short}
@@ -108,7 +111,7 @@ module _ (edition k : ℕ) (f : Site) (d : List ℕ) where
           let en : n ≡ length (lead v rs ++ rules 0 xs) = rw (o .starts, o .ends) (sym (ap length i ∙ removed-long d (f .bytes) p v rs k h (o .within))) in
           let hi : max (f .bytes) (n + 0) ≡ max (f .bytes) n = omega arith in
           let s = written-less v rs xs (omega (arith, c .1)) in
-          made-finished f (f .rules - 1) n (length (written v xs)) d v rs o r (record { few = omega (arith, b .few); short = omega (arith, s, en, b .short); inside = omega (arith, s, en, b .room) }) fin
+          made-finished f (f .rules - 1) n (length (written v xs)) d p v rs o r (edited-fits p rs (fits-deck p (deckOf v rs) (o .sound .fit)) (remove k) xs (hand-remove k) (at-rule rs k _ (h .from))) (record { few = omega (arith, b .few); short = omega (arith, s, en, b .short); inside = omega (arith, s, en, b .room) }) fin
           (rw (hi, ← i) at (removed-holds d (f .bytes) p v rs k h (o .within) (o .starts) (o .ends) ez)) en (omega arith) (at-rule rs k _ (h .from)) (omega (arith, o .many, c .1)) refl .1
 
 -- ---- the first rule of several
@@ -279,5 +282,5 @@ module _ (edition k : ℕ) (f : Site) (e : ℕ) (d : List ℕ) where
           let b = sits-within f d o in
           let m = first-less (f .bytes) (f .base) (f .end) (t .wide) (omega (arith, t .inside, t .order)) in
           let z = within s en m in
-          made-finished f (f .rules - 1) n (length (written v xs)) d v rs o r (record { few = omega (arith, b .few); short = within z refl (t .short); inside = within z refl (t .room) }) fin
+          made-finished f (f .rules - 1) n (length (written v xs)) d p v rs o r (edited-fits p rs (fits-deck p (deckOf v rs) (o .sound .fit)) (remove 0) xs (hand-remove 0) (at-rule rs 0 _ (g .from) ∙ ap become l)) (record { few = omega (arith, b .few); short = within z refl (t .short); inside = within z refl (t .room) }) fin
           (rw (hi, ← i) at (first-holds d (f .bytes) p v rs h (o .within) (o .base) k (t .wide) j w ex)) en (under (length (written v xs)) m) (at-rule rs 0 _ (g .from) ∙ ap become l) (omega (arith, o .many, c, ap length l)) refl .1

@@ -17,8 +17,9 @@ use Rattle.kind.specs.declared.Product.{Product}
 use Rattle.rule.specs.Rule.{Rule}
 use Rattle.rule.specs.Places.{enabledAt}
 use Rattle.rule.specs.Laws.Parts.{front, front-long, kept, back}
-use Rattle.deck.specs.Written.{written, startOf}
-use Rattle.deck.specs.Laws.Written.{before, rules}
+use Rattle.deck.specs.Deck.{baseOf}
+use Rattle.deck.specs.Written.{deckOf, written, startOf}
+use Rattle.deck.specs.Laws.Written.{lead, before, behind-long, rules, written-long}
 use Rattle.buffer.specs.Laid.{putIn}
 use Rattle.buffer.specs.Laws.Laid.{opened}
 use Rattle.buffer.specs.Laws.Holds.{Holds, holds-start, holds-open, holds-fill}
@@ -31,7 +32,11 @@ use Rattle.plan.specs.Edit.{become, rename, edited, renamed}
 use Rattle.plan.specs.Laws.Found.{Makes, Does, Sits, sits-within, found, ground, Ground}
 use Rattle.room.specs.Room.{roomFor}
 use Rattle.room.specs.Laws.Room.{roomy}
-use Rattle.plan.specs.Laws.Makes.{name-ends, replaced-long, written-here, at-rule, no-rule, no-text, made-no, made-out, made-in}
+use Rattle.plan.specs.Laws.Makes.{name-ends, replaced-long, rules-here, at-rule, no-rule, no-text, made-no, made-out}
+use Rattle.plan.specs.Handed.{Handed}
+use Rattle.plan.specs.Laws.Fits.{fits-deck}
+use Rattle.plan.specs.Laws.Kept.{edited-fits}
+use Rattle.plan.specs.Laws.Finish.{Finishes, made-finish}
 use Rattle.plan.specs.Laws.Forms.{renamed-shortest}
 use Rattle.parts.specs.Laws.Text.{textBytes, textSize, text-size, text-is}
 
@@ -113,8 +118,8 @@ module _ (edition k : ℕ) (f : Site) (s d : List ℕ) where
     many : f .rules ≡ length edits
     many = o .many ∙ sym (replaced-long rs (h .later) k (h .r) (renamed (textOf s) (h .r)) (h .from))
 
-    is-written : k < length rs → written v edits ≡ before v rs k ++ (front (renamed (textOf s) (h .r)) ++ (back k (h .r .elements) ++ rules (k + 1) (h .later)))
-    is-written l = written-here v rs (h .later) k (h .r) (renamed (textOf s) (h .r)) (h .from) l
+    is-here : k < length rs → lead v rs ++ rules 0 edits ≡ before v rs k ++ (front (renamed (textOf s) (h .r)) ++ (back k (h .r .elements) ++ rules (k + 1) (h .later)))
+    is-here l = rules-here v rs (h .later) k (renamed (textOf s) (h .r)) l
 
     ends-there : {e : ℕ} → e ≡ nameEnd d (f .start) → e ≡ enabledAt (f .start) (h .r)
     ends-there g = rw (o .starts) (rw (o .starts) at g ∙ name-ends (f .bytes) d h)
@@ -123,21 +128,33 @@ module _ (edition k : ℕ) (f : Site) (s d : List ℕ) where
         → length (before v rs k ++ (front (renamed (textOf s) (h .r)) ++ (back k (h .r .elements) ++ rules (k + 1) (h .later)))) ≡ f .bytes - (e - (f .start + 4)) + len
     is-long bs t ee el = renamed-long d (f .bytes) s p v rs k h (o .within) bs t (o .starts) (ends-there ee) el
 
+    -- the length of the rules with what stands before them, and of their deck
+    is-n : {e len n : ℕ} → k < length rs → Bytes s → isText s ≡ true → e ≡ nameEnd d (f .start) → len ≡ textSize s → n ≡ f .bytes - (e - (f .start + 4)) + len → n ≡ length (lead v rs ++ rules 0 edits)
+    is-n l bs t ee el en = en ∙ sym (ap length (is-here l) ∙ is-long bs t ee el)
+
+    is-deck : length (lead v rs ++ rules 0 edits) ≡ length (written v edits)
+    is-deck = behind-long v rs edits ∙ ap (λ (c : ℕ). baseOf v c + length (rules 0 edits)) (sym (o .many) ∙ many) ∙ sym (written-long v edits)
+
   -- its name ends at e; q is what 18, 19 and 20 were judged as
-  module _ {e len new : ℕ} {q : Outcome} where
-    pub rename-out : k < f .rules → Bytes s → isText s ≡ true → e ≡ nameEnd d (f .start) → len ≡ textSize s → new ≡ f .bytes - (e - (f .start + 4)) + len → q ≡ roomFor (f .rules) new (length d) → ((w : ℕ) → q ≡ Outcome.Done w → ⊥) → Makes edition (λ rs. k) f (rename k s) d q d
+  module _ {e len n : ℕ} {q : Outcome} where
+    pub rename-out : k < f .rules → Bytes s → isText s ≡ true → e ≡ nameEnd d (f .start) → len ≡ textSize s → n ≡ f .bytes - (e - (f .start + 4)) + len → q ≡ roomFor (f .rules) n (length d) → ((w : ℕ) → q ≡ Outcome.Done w → ⊥) → Makes edition (λ rs. k) f (rename k s) d q d
     unfolding Makes
     rename-out l bs t ee el en j x p v rs i o = go (here p v (take (f .bytes) d) rs k (o .sound) (omega (arith, o .many)))
       where
         go : Here p v (take (f .bytes) d) rs k → Does v (f .bytes) (edited p (rename k s) rs) d q d
-        go h = made-out v (f .bytes) d (becomes p v rs o h t) j x (many p v rs o h) (en ∙ sym (ap length (is-written p v rs o h (omega (arith, o .many))) ∙ is-long p v rs o h bs t ee el))
+        go h = made-out v (f .bytes) d (becomes p v rs o h t) j x (many p v rs o h) (is-n p v rs o h (omega (arith, o .many)) bs t ee el en ∙ is-deck p v rs o h)
 
-    pub rename-done : {z y : List ℕ} {w : ℕ} → k < f .rules → Bytes s → isText s ≡ true → e ≡ nameEnd d (f .start) → len ≡ textSize s → new ≡ f .bytes - (e - (f .start + 4)) + len → q ≡ roomFor (f .rules) new (length d) → q ≡ Outcome.Done w
-        → z ≡ opened d (f .bytes) (f .start + 4) e len → y ≡ putIn z (f .start + 4) (textBytes s) → Makes edition (λ rs. k) f (rename k s) d q y
-    unfolding Makes
-    rename-done {z} {y} l bs t ee el en j x ez ey p v rs i o = go (here p v (take (f .bytes) d) rs k (o .sound) (omega (arith, o .many)))
+    pub rename-done : {z y : List ℕ} (u : List ℕ) (r : ℕ) {w : ℕ} → k < f .rules → Bytes s → isText s ≡ true → e ≡ nameEnd d (f .start) → len ≡ textSize s → n ≡ f .bytes - (e - (f .start + 4)) + len → q ≡ roomFor (f .rules) n (length d) → q ≡ Outcome.Done w
+        → z ≡ opened d (f .bytes) (f .start + 4) e len → y ≡ putIn z (f .start + 4) (textBytes s) → Finishes f (f .rules) n y r u → Makes edition (λ rs. k) f (rename k s) d q u
+    unfolding Makes Handed
+    rename-done {z} {y} u r l bs t ee el en j x ez ey fin p v rs i o = go (here p v (take (f .bytes) d) rs k (o .sound) (omega (arith, o .many)))
       where
-        go : Here p v (take (f .bytes) d) rs k → Does v (f .bytes) (edited p (rename k s) rs) d q y
+        handed : Bytes s → Handed (rename k s)
+        handed b = b
+
+        go : Here p v (take (f .bytes) d) rs k → Does v (f .bytes) (edited p (rename k s) rs) d q u
         go h =
-            made-in v (f .bytes) d j x (renamed-holds d (f .bytes) s p v rs k h (o .within) bs t (o .starts) (ends-there p v rs o h ee) el (omega (arith, roomy (f .rules) new (length d) j x .inside)) ez ey) (becomes p v rs o h t) (sym (is-written p v rs o h (omega (arith, o .many))))
-            (is-long p v rs o h bs t ee el ∙ sym en) (omega arith) (many p v rs o h)
+            let b = becomes p v rs o h t in
+            let ln = is-n p v rs o h (omega (arith, o .many)) bs t ee el en in
+            let y′ = renamed-holds d (f .bytes) s p v rs k h (o .within) bs t (o .starts) (ends-there p v rs o h ee) el (omega (arith, roomy (f .rules) n (length d) j x .inside)) ez ey in
+            made-finish f (f .rules) n n d p v rs o r (edited-fits p rs (fits-deck p (deckOf v rs) (o .sound .fit)) (rename k s) _ (handed bs) b) j x fin (rw (← en, ← is-here p v rs o h (omega (arith, o .many))) at y′) ln (omega arith) b (many p v rs o h) (ln ∙ is-deck p v rs o h)

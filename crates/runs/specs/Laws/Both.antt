@@ -17,7 +17,7 @@ use Rattle.deck.specs.Deck.{Deck, deck, readAs}
 use Rattle.deck.specs.Laws.Deck.{deck-small, read-writes-back, written-reads-back}
 use Rattle.deck.specs.Written.{afresh}
 use Rattle.deck.specs.Laws.Written.{written-as, written-bytes}
-use Rattle.runs.specs.Laws.Fits.{Every, Fits, deck-fits, fits-deck, fits-version}
+use Rattle.plan.specs.Laws.Fits.{Every, Fits, deck-fits, fits-deck, fits-version}
 
 module _ (p : Product) where
   element-studio : (x : Element) → element p .Fit x → element Studio .Fit x

@@ -23,10 +23,10 @@ use Rattle.plan.specs.Edit.{Edit}
 use Rattle.plan.specs.Handed.{Handed}
 use Rattle.start.specs.Start.{startSays, startLeaves}
 use Rattle.start.specs.Laws.Start.{start-laid, empty-long}
-use Rattle.runs.specs.Laws.Fits.{deck-fits, first-version, Every}
+use Rattle.plan.specs.Laws.Fits.{deck-fits, first-version, Every}
 use Rattle.runs.specs.Laws.Both.{deck-studio, reads-back}
 use Rattle.runs.specs.Run.{Buffer, Call, Promise, Ran, Steps, Rules, taken, planIn, stepRules, runRules, bufferWith}
-use Rattle.runs.specs.Laws.Run.{ran-is, run, Good, good-taken, good-run, runs}
+use Rattle.runs.specs.Laws.Run.{ran-is, run, Good, good-taken, good-run, taken-version, runs}
 use Rattle.runs.specs.Left.{Left, calls, runIn}
 
 -- where a run begins
@@ -87,6 +87,12 @@ module _ (edition : ℕ) (p : Product) (ed : editionOf edition ≡ Edition.Of p)
       let w = good-taken cap p e l (h .0) f g in
       let i = run-in es (taken (planIn p cap e (l .0)) l) (h .1) (w .0) (w .1) in
       (ap (runRules cap (calls edition es)) (step-in e l g f) ∙ i .0, i .1)
+
+-- the version stays
+pub kept-in-one : (p : Product) (cap : ℕ) (es : List Edit) (l : Rules) → runIn p cap es l .0 .version ≡ l .0 .version
+unfolding runIn
+kept-in-one p cap [] l = refl
+kept-in-one p cap (e ∷ es) l = kept-in-one p cap es (taken (planIn p cap e (l .0)) l) ∙ taken-version cap p e l
 
 -- ---- DEMAND 3
 module _ {A : Type 0} {P : Promise A} {next : ℕ → A → ℕ} (is : Steps P next) {p : Product} {d : List ℕ} {l : Rules} {b b′ : Buffer} where

@@ -18,9 +18,9 @@ use Rattle.buffer.specs.Laid.{laid}
 use Rattle.buffer.specs.Laws.Laid.{take-laid, length-laid, laid-again}
 use Rattle.plan.specs.Edit.{Edit, Plan, become, refuse, refuseGiven, edited, plan, planBy, planned, says, leaves, Edits}
 use Rattle.plan.specs.Handed.{Handed}
-use Rattle.runs.specs.Laws.Fits.{deck-fits, fits-deck, fits-version, Every}
+use Rattle.plan.specs.Laws.Fits.{deck-fits, fits-deck, fits-version, Every}
 use Rattle.runs.specs.Laws.Both.{deck-studio, reads-same}
-use Rattle.runs.specs.Laws.Kept.{edited-fits, in-room}
+use Rattle.plan.specs.Laws.Kept.{edited-fits, in-room}
 use Rattle.runs.specs.Run.{Buffer, Call, lengthFrom, stepBy, step, Promise, Ran, Steps, Called, Rules, taken, ifAccepted, planIn, planRules, stepRules, runRules, bufferWith}
 
 unfoldable pub run : List Call → Buffer → Buffer
@@ -82,6 +82,32 @@ module _ (cap : ℕ) where
   unfolding runRules Every
   good-run [] l h g = g
   good-run (c ∷ cs) l h g = good-run cs (stepRules cap c l) (h .1) (good-step c l (h .0) g)
+
+  -- the version stays
+  pub taken-version : (p : Product) (e : Edit) (l : Rules) → taken (planIn p cap e (l .0)) l .0 .version ≡ l .0 .version
+  taken-version p e l = go (planIn p cap e (l .0)) refl
+    where
+      go : (q : Plan Deck) → planIn p cap e (l .0) ≡ q → taken q l .0 .version ≡ l .0 .version
+      go (become k) z = in-room cap (l .0 .version) (edited p e (l .0 .rules)) z .1 .0
+      go (refuse c q) z = refl
+      go (refuseGiven c q) z = refl
+
+  step-version : (c : Call) (l : Rules) → stepRules cap c l .0 .version ≡ l .0 .version
+  unfolding stepRules
+  step-version c l = by (editionOf (c .0))
+    where
+      read : (p : Product) (a : Answer Deck) → taken (ifAccepted a (planIn p cap (c .1) (l .0))) l .0 .version ≡ l .0 .version
+      read p (got k m) = taken-version p (c .1) l
+      read p (refused x q) = refl
+
+      by : (o : Edition) → taken (planRules o cap (c .1) (l .0)) l .0 .version ≡ l .0 .version
+      by (Edition.Of p) = read p (readAs p (afresh (l .0)))
+      by Edition.Unknown = refl
+
+  pub kept-version : (cs : List Call) (l : Rules) → runRules cap cs l .0 .version ≡ l .0 .version
+  unfolding runRules
+  kept-version [] l = refl
+  kept-version (c ∷ cs) l = kept-version cs (stepRules cap c l) ∙ step-version c l
 
 module _ (d : List ℕ) where
   -- the deck is read as its list

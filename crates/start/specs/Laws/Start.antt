@@ -6,8 +6,11 @@ use mathlib.Core.List.{List, []}
 use lib.ListN.{length}
 use Rattle.format.specs.ReadWrite.{pairWrite, value, spelt, eachWrite}
 use Rattle.format.specs.Laws.ReadWrite.{length-spelt}
-use Rattle.format.specs.Combinators.{pair, seq, _then_, judged, via, number, count, fixed, bytes, each, counted}
-use Rattle.deck.specs.Deck.{mark, version, ruleList, deck}
+use Rattle.format.specs.Combinators.{pair, seq, _then_, judged, via, number, count, fixed, bytes, counted}
+use Rattle.format.specs.Format.{pick}
+use Rattle.format.specs.Index.{indexWrite, indexedWrite}
+use Rattle.format.specs.Indexed.{indexed}
+use Rattle.deck.specs.Deck.{mark, version, wide, ruleList, deck}
 use Rattle.deck.specs.Written.{written}
 use Rattle.buffer.specs.Laid.{putIn, put, laid}
 use Rattle.buffer.specs.Laws.Laid.{put-in, put-out}
@@ -15,7 +18,7 @@ use Rattle.start.specs.Start.{startLeaves}
 
 -- ---- as the code writes it
 pub empty-is : spelt 7 0x014B4452 ≡ written 1 []
-unfolding written deck version ruleList counted bytes mark fixed count via judged _then_ seq pair pairWrite number each eachWrite spelt value
+unfolding written deck version wide ruleList counted indexed indexedWrite indexWrite pick bytes mark fixed count via judged _then_ seq pair pairWrite number eachWrite spelt value
 empty-is = refl
 
 pub empty-long : length (written 1 []) ≡ 7

@@ -11,4 +11,4 @@ returns-2 c = search (needs, name-is)
 
 pub name-end-spec : {M : Type 1} → statement M
 name-end-spec =
-    tie.close (tie.spec (λ c κs. search needs) returns (λ c. search needs) (λ c κs. search needs) returns-2)
+    tie.close (tie.spec (λ c κs. search needs) (λ c. search needs) (λ c. search needs) returns (λ c κs. search needs) returns-2)

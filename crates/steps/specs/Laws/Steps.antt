@@ -4,23 +4,25 @@ use native.Mathlib.Omega.{arith}
 use native.Mathlib.Decide.{decLt}
 use mathlib.Core.Path.{_≡_, refl, sym, ap, _∙_}
 use mathlib.Core.Bool.{Bool, true, false}
-use mathlib.Core.List.{List, [], _∷_, _++_, append-assoc, append-nil}
-use lib.ListN.{length, take, drop, length-append, take-append-drop}
+use mathlib.Core.List.{List, [], _∷_, _++_, append-assoc}
+use lib.ListN.{length, take, drop, length-append}
 use lib.Dec.{leb}
 use borrow.Author.Tests.{le-leb, lt-leb, leb-true}
-use lib.Seq.{take-all, drop-at, length-take-le}
+use lib.Seq.{take-all, drop-at}
 use Rattle.format.specs.declared.Fault.{Fault}
 use Rattle.format.specs.declared.Fault.the-variants as Fault
 use Rattle.format.specs.declared.Read.{Read}
 use Rattle.format.specs.declared.Read.the-variants.{Got, No}
 use Rattle.format.specs.Format.{got, Bytes, pick}
 use Rattle.format.specs.Laws.ReadWrite.{length-spelt}
-use Rattle.format.specs.Combinators.{number}
-use Rattle.format.specs.Laws.Seen.{seen, itself, unlike, got-at, none}
+use Rattle.format.specs.ReadWrite.{value}
+use Rattle.format.specs.Combinators.{number, each}
+use Rattle.format.specs.Laws.Seen.{seen, itself, unlike, got-at, none, number-is, number-no}
+use Rattle.format.specs.Laws.Fours.{fours-no}
 use Rattle.format.specs.Laws.Written.{Held, Row}
 use Rattle.format.specs.Laws.Back.{Where, stands-seen, stands-room, seen-ends}
 use Rattle.format.specs.Row.{startIn}
-use Rattle.format.specs.Laws.Skip.{Skipped, skip-start, skip-step, skip-end, skip-nth, skip-is, skip-never, Nth, nth, start-more}
+use Rattle.format.specs.Laws.Skip.{Skipped, skip-start, skip-step, skip-end, skip-nth, Nth, nth, start-more}
 use Rattle.text.specs.Text.{string}
 use Rattle.kind.specs.declared.Product.{Product}
 use Rattle.rule.specs.Rule.{Rule, rule}
@@ -116,13 +118,26 @@ module _ (s : List ℕ) (at : ℕ) where
   all-there : (p : Product) (i : ℕ) (x : Rule) → Held (rule p i) s at x → nameEnd s at + 24 + sizeOf i (x .elements) ≤ length s
   all-there p i x b = omega (arith, name-end p i x b, rule-parts p i s at x (b .0) (b .1) .ends, body-size p i (x .elements), stands-room (rule p i) s at (b .1))
 
-  pub name-past : {w : ℕ} → w ≡ length s - at → w < 4 → No at Fault.Cut ≡ nameRead s at
-  unfolding nameRead pick
-  name-past {w} e h = rw (lt-leb 4 (length s - at) (omega arith))
+  -- g is what the signature was read as
+  module _ {g : Read} (e : g ≡ seen itself (number 4) s at) where
+    pub name-past : {c : Fault} {q : ℕ} → g ≡ No q c → g ≡ nameRead s at
+    unfolding nameRead pick
+    name-past h =
+        elim (decLt (length s - at) 4) [
+          | yes l ↦ rw (lt-leb 4 (length s - at) l) (e ∙ sym (number-no 4 s at l))
+          | no l ↦ unlike (e ∙ sym (number-is 4 s at refl (omega arith))) h
+        ]
 
-  pub name-is : {w : ℕ} {t : Read} → w ≡ length s - at → 4 ≤ w → t ≡ seen none string s (at + 4) → t ≡ nameRead s at
-  unfolding nameRead pick
-  name-is e h f = rw (le-leb 4 (length s - at) (omega arith)) f
+    pub name-is : {t : Read} {v m : ℕ} → g ≡ Got m v → t ≡ seen none string s m → t ≡ nameRead s at
+    unfolding nameRead pick
+    name-is {m = m} h f =
+        elim (decLt (length s - at) 4) [
+          | yes l ↦ unlike h (e ∙ sym (number-no 4 s at l))
+          | no l ↦
+              let w : Got (at + 4) (value (take 4 (drop at s))) ≡ g = number-is 4 s at refl (omega arith) ∙ sym e in
+              let z : m ≡ at + 4 = cc in
+              rw (le-leb 4 (length s - at) (omega arith)) (rw z at f)
+        ]
 
   pub name-within : at ≤ length s → nameEnd s at ≤ length s
   unfolding nameEnd nameRead pick
@@ -160,9 +175,9 @@ module _ (s : List ℕ) (at : ℕ) where
     follows-unnamed r f h p i x b = name-never f h p i x b
 
     module _ {u m : ℕ} where
-      pub follows-short : (r : Read) {w : ℕ} → t ≡ nameRead s at → t ≡ Got m u → w ≡ length s - m → w < 20 → Follows s at r
+      pub follows-short : (r : Read) {w : Read} {c : Fault} {q : ℕ} → t ≡ nameRead s at → t ≡ Got m u → w ≡ seen none (each (λ i. number 4) 0 6) s m → w ≡ No q c → Follows s at r
       unfolding Follows Where
-      follows-short r f h g l p i x b = absurd (omega (arith, name-got f h, all-there p i x b))
+      follows-short r f h g k p i x b = absurd (omega (arith, name-got f h, all-there p i x b, fours-no s m 6 g k .0))
 
       module _ {z : Read} where
         pub follows-unsized : (r : Read) {c : Fault} {q : ℕ} → t ≡ nameRead s at → t ≡ Got m u → z ≡ seen itself (number 4) s (m + 20) → z ≡ No q c → Follows s at r
@@ -170,9 +185,9 @@ module _ (s : List ℕ) (at : ℕ) where
         follows-unsized r f h o k p i x b = unlike (size-read p i x b (name-got f h) o) k
 
         module _ {v q : ℕ} where
-          pub follows-cut : (r : Read) {w : ℕ} → t ≡ nameRead s at → t ≡ Got m u → z ≡ seen itself (number 4) s (m + 20) → z ≡ Got q v → w ≡ length s - q → w < v → Follows s at r
+          pub follows-cut : (r : Read) → t ≡ nameRead s at → t ≡ Got m u → z ≡ seen itself (number 4) s (m + 20) → z ≡ Got q v → length s < q + v → Follows s at r
           unfolding Follows Where
-          follows-cut r f h o k g l p i x b =
+          follows-cut r f h o k l p i x b =
               let e = name-got f h in
               let d = size-is p i x b e o k in
               absurd (omega (arith, all-there p i x b, d .0, d .1, e))
@@ -221,14 +236,9 @@ module _ (s : List ℕ) (base k : ℕ) where
     reached-end w l m p = skip-end (rule p) s base k i at (w p) l m
 
   -- of a sound deck
-  module _ (i : ℕ) {r : Read} (w : Reached s base k i r) (p : Product) (v : ℕ) (rs : List Rule) (o : Sound p v s rs) (e : base ≡ baseOf v (length rs)) (l : k ≤ length rs) where
-    pub reached-is : {u at : ℕ} → r ≡ Got at u → at ≡ startOf v rs i
-    unfolding Reached
-    reached-is h = skip-is (rule p) s base k i (w p) rs [] (rw e (sound-row p v s rs o)) l h ∙ ap (λ (b : ℕ). startIn (rule p) b rs i) e ∙ start-as v rs i p
-
-    pub reached-never : {B : Type 0} {c : Fault} {q : ℕ} → r ≡ No q c → B
-    unfolding Reached
-    reached-never h = skip-never (rule p) s base k i (w p) rs [] (rw e (sound-row p v s rs o)) l h
+  pub reached-is : (i : ℕ) {r : Read} → Reached s base k i r → (p : Product) (v : ℕ) (rs : List Rule) → Sound p v s rs → base ≡ baseOf v (length rs) → k ≤ length rs → r ≡ Got (startOf v rs i) 0
+  unfolding Reached Skipped
+  reached-is i w p v rs o e l = w p rs [] (rw e (sound-row p v s rs o)) l ∙ got-at (ap (λ (b : ℕ). startIn (rule p) b rs i) e ∙ start-as v rs i p)
 
 -- ---- past the last rule, and within the deck
 

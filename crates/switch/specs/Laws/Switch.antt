@@ -12,9 +12,10 @@ use Rattle.format.specs.ReadWrite.{spelt, bit}
 use Rattle.format.specs.Laws.ReadWrite.{length-spelt, length-before}
 use Rattle.text.specs.Text.{string}
 use Rattle.kind.specs.declared.Product.{Product}
-use Rattle.rule.specs.Rule.{Rule}
+use Rattle.kind.specs.declared.Product.the-variants.{Studio}
+use Rattle.rule.specs.Rule.{Rule, rule}
 use Rattle.rule.specs.Places.{enabledAt}
-use Rattle.rule.specs.Laws.Parts.{front, front-long, kept, back}
+use Rattle.rule.specs.Laws.Parts.{front, front-long, kept, back, rule-long}
 use Rattle.deck.specs.Laws.Written.{before, rules}
 use Rattle.deck.specs.Written.{startOf}
 use Rattle.buffer.specs.Laid.{putIn}
@@ -46,6 +47,9 @@ same-long n d p v rs k on h w =
     let L = back k (h .r .elements) ++ rules (k + 1) (h .later) in
     omega (arith, length-append B (front (switched on (h .r)) ++ L), length-append (front (switched on (h .r))) L, front-long (switched on (h .r)), front-long (h .r), ap length (h .is), length-append B (front (h .r) ++ L), length-append (front (h .r)) L, length-take-le n d w)
 
+as-long : (k : ℕ) (on : Bool) (r : Rule) → length (rule Studio k .write (switched on r)) ≡ length (rule Studio k .write r)
+as-long k on r = omega (arith, rule-long Studio k (switched on r), rule-long Studio k r)
+
 module _ (edition k : ℕ) (f : Site) (on : Bool) (d : List ℕ) where
   pub switch-absent : f .rules ≤ k → Makes edition (λ rs. k) f (switch k on) d (Outcome.No Fault.Absent 0) d
   unfolding Makes edited
@@ -59,5 +63,5 @@ module _ (edition k : ℕ) (f : Site) (on : Bool) (d : List ℕ) where
       go h =
           let e′ : e ≡ enabledAt (startOf v rs k) (h .r) = rw (o .starts) at g ∙ name-ends (f .bytes) d h in
           let b = sits-within f d o in
-          made-is v (f .bytes) d (switched-holds d (f .bytes) on p v rs k h (o .within) e′ z) (at-rule rs k _ (h .from)) (sym (written-here v rs (h .later) k (h .r) (switched on (h .r)) (h .from) (omega (arith, o .many))))
+          made-is v (f .bytes) d (switched-holds d (f .bytes) on p v rs k h (o .within) e′ z) (at-rule rs k _ (h .from)) (sym (written-here v rs (h .later) k (h .r) (switched on (h .r)) (h .from) (omega (arith, o .many)) (λ z. as-long k on (h .r))))
           (same-long (f .bytes) d p v rs k on h (o .within)) (omega arith) (omega (arith, replaced-long rs (h .later) k (h .r) (switched on (h .r)) (h .from), o .many, b .few)) (b .short)

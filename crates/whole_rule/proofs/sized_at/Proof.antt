@@ -1,3 +1,6 @@
+use native.Mathlib.Omega.{arith}
+use Rattle.format.specs.Laws.Format.{bytes-all}
+use Rattle.format.specs.Laws.Seen.{number-got}
 use Rattle.format.specs.Laws.Sizes.{sizing}
 use borrow.Author.Needs.{needs}
 use Rattle.whole_rule.proofs.sized_at.Statement.{statement}
@@ -8,6 +11,9 @@ returns c = search sizing
 
 returns-2 : tie.Need-returns-2
 returns-2 c = search sizing
+
+add-if1 : tie.Need-add-if1
+add-if1 c = omega (arith, number-got 4 (c .before .before .before .before .before .before .before .before .before .args .s .now) (c .before .before .before .before .before .before .before .before .before .args .at) (bytes-all (c .before .before .before .before .before .before .before .before .before .args .s .now) (c .before .before .before .before .before .before .before .before .shared-slice-known .given)) (omega arith) (c .before .before .before .before .before .before .before .u32-at .ensures) (c .before .before .before .before .before .d .given .1))
 
 returns-3 : tie.Need-returns-3
 returns-3 c = search sizing
@@ -27,6 +33,6 @@ sized-at-spec =
     (λ c. search needs)
     (λ c. search needs)
     returns-2
-    (λ c κs. search needs)
+    add-if1
     returns-3
     returns-4)

@@ -138,7 +138,7 @@ module _ (n m e t c : ℕ) (s d : List ℕ) where
     unfolding front kept
     longer-written b =
         let f′ : drop k rs ≡ h .r ∷ [] = h .from ∙ rw z in
-        written-here v rs [] k (h .r) (holding (longer k (h .r .elements) e o l s) (h .r)) f′ (among h)
+        written-here v rs [] k (h .r) (holding (longer k (h .r .elements) e o l s) (h .r)) f′ (among h) (λ z. absurd (omega arith))
         ∙ rw (rules-none, append-nil, back-longer k (h .r .elements) e o l n s b (size-ends n d h z w g))
 
     bytes-long : (S C : ℕ) → length (bytesWith S C) ≡ n + 4 + length (textBytes s)

@@ -23,7 +23,7 @@ returns-3 c = (asked-absent _ _ _ _ _ (bytes-all (c .before .before .before .bef
 
 returns-4 : tie.Need-returns-4
 unfolding wordView
-returns-4 c = (asked-is _ _ _ _ _ (bytes-all (c .before .before .before .before .before .before .before .before .before .before .before .args .s .now) (c .before .before .before .before .before .before .before .before .before .before .shared-slice-known .given)) (c .before .before .before .before .before .pass .ensures .0) (c .before .before .before .c .given .1) (omega arith) (by-product _ _ _ _ _ _ (c .before .before .before .before .before .before .before .before .before .edition-of .ensures) (c .before .before .before .before .before .before .before .d .given .1) (c .word-of .ensures .0)), c .word-of .ensures .1)
+returns-4 c = (asked-is _ _ _ _ _ (bytes-all (c .before .before .before .before .before .before .before .before .before .before .before .args .s .now) (c .before .before .before .before .before .before .before .before .before .before .shared-slice-known .given)) (c .before .before .before .before .before .pass .ensures .0) (c .before .before .before .c .given .1) (omega arith) (by-product _ _ _ _ _ _ _ (c .before .before .before .before .before .before .before .before .before .edition-of .ensures) (c .before .before .before .before .before .before .before .d .given .1) (c .word-of .ensures .0)), c .word-of .ensures .1)
 
 pub find-word-spec : {M : Type 1} → statement M
 find-word-spec =

@@ -23,10 +23,10 @@ use Rattle.deck.specs.Laws.Deck.{read-writes-back}
 use Rattle.deck.specs.Written.{deckOf, afresh}
 use Rattle.room.specs.Laws.Room.{room-judged}
 use Rattle.given.specs.Given.{isText, textOf}
 use Rattle.plan.specs.Edit.{Edit, switch, rename, remove, insert, addRule, addElement, addWord, Plan, become, refuse, refuseGiven, atRule, atCopy, atSecond, atLast, atList, unlessFull, ifText, atGiven, edited, inVersion, ifDone, inRoom, switched, renamed, holding, newRule}
 use Rattle.plan.specs.Handed.{HandedFields, Handed}
-use Rattle.runs.specs.Laws.Fits.{Every, every-append, every-take, every-drop, Fits, fits-deck}
-use Rattle.runs.specs.Laws.Given.{text-fits, word-fits, given-fits, word-more}
+use Rattle.plan.specs.Laws.Fits.{Every, every-append, every-take, every-drop, Fits, fits-deck}
+use Rattle.plan.specs.Laws.Given.{text-fits, word-fits, given-fits, word-more}
 
 -- ---- a plan that is a list, taken apart
 no-list : {A : Type 0} {B : Type 0} {c : Fault} {q : ℕ} {x : A} → refuse c q ≡ become x → B
@@ -124,7 +124,7 @@ module _ (p : Product) (r : Rule) (f : Fits p r) where
       let v = ap length e in
       holding-fits (take k (r .elements) ++ (x ∷ [])) (all-append (placed p) 0 (take k (r .elements)) (x ∷ []) (all-take (placed p) 0 k (r .elements) (f .elements)) (one-placed p _ x y)) (omega (arith, n)) (omega (arith, n, m, t, v, f .few))
 
-new-fits : (p : Product) (t : Text) (f : Fields) (x : Element) → HandedFields f → string .Fit t → element p .Fit x → Fits p (newRule t f x)
+pub new-fits : (p : Product) (t : Text) (f : Fields) (x : Element) → HandedFields f → string .Fit t → element p .Fit x → Fits p (newRule t f x)
 new-fits p t f x s g w = record { signature = s .0; name = g; unknown2 = s .1 .0; unknown3 = s .1 .1 .0; unknown4 = s .1 .1 .1 .0; unknown5 = s .1 .1 .1 .1; some = omega arith; few = omega arith; elements = one-placed p 0 x w }
 
 -- ---- every edit

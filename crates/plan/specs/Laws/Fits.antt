@@ -12,6 +12,7 @@ use Rattle.format.specs.Format.{pick}
 use Rattle.format.specs.ReadWrite.{within, value, bit, AllFit}
 use Rattle.format.specs.Laws.ReadWrite.{within-is, within-fits}
 use Rattle.format.specs.Combinators.{pair, seq, _then_, judged, via, number, count, fixed, bytes, flag, each, counted, sized, measured}
+use Rattle.format.specs.Indexed.{indexed}
 use Rattle.text.specs.Text.{string}
 use Rattle.kind.specs.declared.Product.{Product}
 use Rattle.rule.specs.Rule.{Rule, rule, fields, fromUnknown2, fromUnknown4, body, head, firstHead, classHead, className, separator, placed}
@@ -99,7 +100,7 @@ fits-there p i r f l =
 -- ---- a deck
 
 -- wherever they stand, the rules of a deck that is not too long have a Data Size of four bytes
-all-fit : (p : Product) (i : ℕ) (rs : List Rule) → Every (Fits p) rs → length (rules i rs) < 256 ^ 4 → AllFit (rule p) i rs
+pub all-fit : (p : Product) (i : ℕ) (rs : List Rule) → Every (Fits p) rs → length (rules i rs) < 256 ^ 4 → AllFit (rule p) i rs
 unfolding Every AllFit
 all-fit p i [] f l = tt
 all-fit p i (r ∷ rs) f l =
@@ -109,13 +110,13 @@ all-fit p i (r ∷ rs) f l =
     let e = ap length (rules-cons i r rs) in
     (fits-there p i r (f .0) (omega (arith, l, e, a, b, back-long i (r .elements))), all-fit p (i + 1) rs (f .1) (omega (arith, l, e, a, b)))
 
-fits-all : (p : Product) (i : ℕ) (rs : List Rule) → AllFit (rule p) i rs → Every (Fits p) rs
+pub fits-all : (p : Product) (i : ℕ) (rs : List Rule) → AllFit (rule p) i rs → Every (Fits p) rs
 unfolding Every AllFit
 fits-all p i [] f = tt
 fits-all p i (r ∷ rs) f = (fits-anywhere p i r (f .0), fits-all p (i + 1) rs (f .1))
 
 pub deck-fits : (p : Product) (k : Deck) → version .Fit (k .version) → Every (Fits p) (k .rules) → length (k .rules) ≤ 256 → length (afresh k) ≤ 60000 → deck p .Fit k
-unfolding deck ruleList counted count seq via pair judged number each
+unfolding deck ruleList counted count indexed via pair judged number
 deck-fits p k w f h l =
     let n : length (rules 0 (k .rules)) < 256 ^ 4 = omega (arith, l, written-long (k .version) (k .rules)) in
     ((w, (((omega arith, within-fits 0 256 (length (k .rules)) (omega arith) h), (refl, all-fit p 0 (k .rules) f n)), refl)), refl)
@@ -124,7 +125,7 @@ pub fits-deck : (p : Product) (k : Deck) → deck p .Fit k → Every (Fits p) (k
 fits-deck p k f = fits-all p 0 (k .rules) (deck-rules p k f)
 
 pub fits-version : (p : Product) (k : Deck) → deck p .Fit k → version .Fit (k .version)
-unfolding deck seq via pair
+unfolding deck via pair
 fits-version p k f = f .0 .0
 
 -- the version that a start makes
