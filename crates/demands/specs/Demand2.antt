@@ -22,8 +22,9 @@ use Rattle.kind.specs.Kinds.{kinds, has, inProduct, identifiers, rowIn, offered
 use Rattle.element.specs.Element.{isRow}
 use Rattle.deck.specs.Deck.{Deck, version, deck, readAs}
 use Rattle.deck.specs.Laws.Deck.{read-writes-back, written-reads-back}
+use Rattle.plan.specs.Laws.Fits.{version-fits}
 use Rattle.convert.specs.Convert.{readOnly, Converts, Converted}
-use Rattle.convert.specs.Laws.Back.{only-refuses, only-same, only-takes, only-other-deck, converted, past-kept, there-and-back, version-fits, up-and-down, down-and-up}
+use Rattle.convert.specs.Laws.Back.{only-refuses, only-same, only-takes, only-other-deck, converted, past-kept, there-and-back, up-and-down, down-and-up}
 
 -- both ways, in both editions and of either version, which a deck's value has
 pub written-then-read : (p : Product) (k : Deck) → deck p .Fit k → length (deck p .write k) ≤ 60000 → readAs p (deck p .write k) ≡ got k (length (deck p .write k))

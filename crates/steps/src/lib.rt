@@ -16,7 +16,7 @@ pub fn name_end(s: &[u8], at: usize) -> Read
     text::string_end(s, p)
 }
 
-// Where the rule that starts at a place of a sound deck ends.
+// Where the rule that starts at a place of a sound deck ends. Behind its name stand six numbers, Enabled the first and Data Size the last.
 pub fn end_of(s: &[u8], at: usize) -> Read
     ensures { λ r. ⌜ Follows (now (s .entry)) at r ⌝ }
 {

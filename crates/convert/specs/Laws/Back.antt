@@ -6,7 +6,7 @@ use native.Mathlib.Omega.{arith}
 use mathlib.Core.Path.{_≡_, refl, sym, ap, ap₂, _∙_}
 use mathlib.Core.Bool.{Bool, true, false}
 use mathlib.Core.List.{List}
-use lib.Dec.{lit<, leb, eqb}
+use lib.Dec.{leb, eqb}
 use lib.ListN.{length, take, drop}
 use borrow.Author.Tests.{le-leb, leb-true, eq-eqb, ne-eqb, eqb-true}
 use Rattle.format.specs.declared.Fault.{Fault}
@@ -15,15 +15,14 @@ use Rattle.format.specs.declared.Outcome.{Outcome}
 use Rattle.format.specs.declared.Outcome.the-variants as Outcome
 use Rattle.format.specs.Format.{Answer, got, refused, pick, whole, Bytes}
 use Rattle.format.specs.Laws.Format.{apart, went, mapped-got}
-use Rattle.format.specs.ReadWrite.{pairRead, value}
-use Rattle.format.specs.Laws.ReadWrite.{within-fits}
-use Rattle.format.specs.Combinators.{pair, seq, _then_, judged, via, number, fixed, bytes}
+use Rattle.format.specs.ReadWrite.{pairRead}
+use Rattle.format.specs.Combinators.{pair, via}
 use Rattle.kind.specs.declared.Product.{Product}
 use Rattle.kind.specs.declared.Edition.{Edition}
 use Rattle.kind.specs.declared.Edition.the-variants as Edition
 use Rattle.kind.specs.Kinds.{editionOf}
 use Rattle.rule.specs.Rule.{Rule}
-use Rattle.deck.specs.Deck.{Deck, mark, version, ruleList, deck, readAs}
+use Rattle.deck.specs.Deck.{Deck, version, ruleList, deck, readAs}
 use Rattle.deck.specs.Written.{deckOf, written, afresh}
 use Rattle.deck.specs.Laws.Deck.{wide-none, base-is, deck-small, read-writes-back, written-reads-back}
 use Rattle.deck.specs.Laws.Written.{written-as, written-long, base-least}
@@ -32,7 +31,7 @@ use Rattle.buffer.specs.Laws.Laid.{take-laid, drop-laid}
 use Rattle.room.specs.Laws.Room.{room-is}
 use Rattle.steps.specs.Laws.Steps.{sound-read}
 use Rattle.plan.specs.Edit.{Plan, become, refuse, refuseGiven, says, leaves}
-use Rattle.plan.specs.Laws.Fits.{deck-fits, fits-deck}
+use Rattle.plan.specs.Laws.Fits.{deck-fits, fits-deck, version-fits}
 use Rattle.plan.specs.Laws.Kept.{in-room}
 use Rattle.convert.specs.Convert.{onlyIn, readOnly, inOther, planOther, otherPlan, Converts, Converted}
 
@@ -172,11 +171,6 @@ there-and-back edition v u s d e {m} {d′} {e′} {r} bs fu c b l =
     let j = room-is (length rs) (length (written v rs)) (length e) (deck-small p (deckOf v rs) (w .fit)) (omega (arith, w .short)) (omega arith) in
     let q : otherPlan edition u v (length e) (take m d′) ≡ become (deckOf v rs) = rw (x .known, o, ← j) in
     (b .0 ∙ ap says q ∙ ap Outcome.Done n, ap (take (length s)) (b .1 ∙ ap (leaves 0 e) q) ∙ take-laid (written v rs) _ e n ∙ sym (w .is))
-
--- the versions that there are
-pub version-fits : (v : ℕ) → 1 ≤ v → v ≤ 2 → version .Fit v
-unfolding version _then_ seq via pair fixed bytes mark value judged number
-version-fits v l h = ((((lit< tt, refl), refl), (omega arith, within-fits 1 2 v l h)), refl)
 
 -- each way
 module _ (edition : ℕ) (s d e : List ℕ) {m : ℕ} {d′ e′ : List ℕ} {r : Outcome} (bs : Bytes s) where

@@ -28,7 +28,7 @@ use Rattle.format.specs.declared.Read.the-variants as Read
 use Rattle.format.specs.Laws.Seen.{told, seen, itself, none, told-got, told-no, pair-stop, pair-go, via-is}
 use Rattle.format.specs.Laws.Back.{seen-fits, seen-ends}
 use Rattle.format.specs.Row.{total}
-use Rattle.format.specs.Laws.Rows.{added, added-twice, counted-is, row-there}
+use Rattle.format.specs.Laws.Rows.{added, added-none, added-twice, counted-is, row-there}
 use Rattle.kind.specs.declared.Product.{Product}
 use Rattle.kind.specs.declared.Edition.{Edition}
 use Rattle.kind.specs.declared.Edition.the-variants as Edition
@@ -152,10 +152,6 @@ pub record Turn (p : Product) (v n : ℕ) (s : List ℕ) (i t q : ℕ) : Type 0 
   pub past : 7 ≤ q
   pub inside : q ≤ length s
   pub there : wide v * n ≤ length s - 7
-
-added-none : (r : Read) → added 0 r ≡ r
-added-none (Read.Got m v) = rw zero-add
-added-none (Read.No q c) = refl
 
 module _ (p : Product) (v n : ℕ) (s : List ℕ) where
   -- x is what the offsets were read as

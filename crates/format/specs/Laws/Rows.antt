@@ -17,7 +17,6 @@ use Rattle.format.specs.Laws.Format.{went, mapped-got}
 use Rattle.format.specs.ReadWrite.{numberRead, value, eachRead}
 use Rattle.format.specs.Combinators.{number, pair, each, counted, listed}
 use Rattle.format.specs.Laws.Seen.{told, seen, none, told-got, on-stop, told-shift, told-mapped, via-is}
-use Rattle.format.specs.Row.{total}
 
 -- of a row of n the i first are read: none is left; the next is refused; the next is read
 module _ {A : Type 0} (h : List A → ℕ) (a : ℕ → Format A) (s : List ℕ) (n i at : ℕ) where
@@ -74,7 +73,7 @@ abbrev pub added : ℕ → Read → Read
 added t (Got m v) = Got m (t + v)
 added t (No p c) = No p c
 
-added-none : (r : Read) → added 0 r ≡ r
+pub added-none : (r : Read) → added 0 r ≡ r
 added-none (Got m v) = rw zero-add
 added-none (No p c) = refl
 
@@ -86,27 +85,6 @@ pub told-added : {A : Type 0} (p v : ℕ) (h : A → ℕ) (q : Answer A) → tol
 unfolding told
 told-added p v h (got x m) = refl
 told-added p v h (refused c o) = refl
-
-module _ {A : Type 0} (g : A → ℕ) (a : ℕ → Format A) (s : List ℕ) (n i at t : ℕ) {whole : Read} where
-  pub sum-done : added t (seen (total g) (each a i (n - i)) s at) ≡ whole → n ≤ i → Got at t ≡ whole
-  unfolding total
-  sum-done w l = sym (ap (added t) (row-end (total g) a s n i at l) ∙ rw add-zero) ∙ w
-
-  pub sum-stop : {r : Read} {c : Fault} {p : ℕ} → added t (seen (total g) (each a i (n - i)) s at) ≡ whole → i < n → r ≡ seen g (a i) s at → r ≡ No p c → r ≡ whole
-  sum-stop w l e k = k ∙ ap (added t) (sym k ∙ row-stop (total g) a s n i at g l e k) ∙ w
-
-  pub sum-go : {r : Read} {v p : ℕ} → added t (seen (total g) (each a i (n - i)) s at) ≡ whole → i < n → r ≡ seen g (a i) s at → r ≡ Got p v
-      → added (t + v) (seen (total g) (each a (i + 1) (n - (i + 1))) s p) ≡ whole
-  unfolding seen total
-  sum-go {v = v} {p = p} w l e k =
-      let o = row-go (total g) a s n i at g l e k in
-      let rest = each a (i + 1) (n - (i + 1)) .read (drop p s) in
-      sym (added-twice t v (told p (total g) rest)) ∙ ap (added t) (sym (told-added p v (total g) rest) ∙ ap (λ (u : ℕ). told p (λ xs. u + total g xs) rest) (o .1 .0) ∙ o .1 .1) ∙ w
-
-pub sum-start : {A : Type 0} (g : A → ℕ) (a : ℕ → Format A) (s : List ℕ) (n at : ℕ) → added 0 (seen (total g) (each a 0 (n - 0)) s at) ≡ seen (total g) (each a 0 n) s at
-sum-start g a s n at = let z : n - 0 ≡ n = omega arith in added-none (seen (total g) (each a 0 (n - 0)) s at) ∙ ap (λ (k : ℕ). seen (total g) (each a 0 k) s at) z
-
-pub ruleset summing = (sum-start, sum-stop, sum-go, sum-done)
 
 -- a number of them, then they
 module _ {A : Type 0} (g : List A → ℕ) (l : Format ℕ) (a : ℕ → Format (List A)) (long : (n : ℕ) (xs : List A) → a n .Fit xs → length xs ≡ n) (s : List ℕ) (at : ℕ) where

@@ -128,7 +128,7 @@ pub fits-version : (p : Product) (k : Deck) → deck p .Fit k → version .Fit (
 unfolding deck via pair
 fits-version p k f = f .0 .0
 
--- the version that a start makes
-pub first-version : version .Fit 1
-unfolding version _then_ seq via pair fixed bytes mark value judged number within
-first-version = ((((lit< tt, refl), refl), (lit< tt, refl)), refl)
+-- the versions that there are
+pub version-fits : (v : ℕ) → 1 ≤ v → v ≤ 2 → version .Fit v
+unfolding version _then_ seq via pair fixed bytes mark value judged number
+version-fits v l h = ((((lit< tt, refl), refl), (omega arith, within-fits 1 2 v l h)), refl)

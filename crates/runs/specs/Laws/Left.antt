@@ -23,7 +23,7 @@ use Rattle.plan.specs.Edit.{Edit}
 use Rattle.plan.specs.Handed.{Handed}
 use Rattle.start.specs.Start.{startSays, startLeaves}
 use Rattle.start.specs.Laws.Start.{start-laid, empty-long}
-use Rattle.plan.specs.Laws.Fits.{deck-fits, first-version, Every}
+use Rattle.plan.specs.Laws.Fits.{deck-fits, version-fits, Every}
 use Rattle.runs.specs.Laws.Both.{deck-studio, reads-back}
 use Rattle.runs.specs.Run.{Buffer, Call, Promise, Ran, Steps, Rules, taken, planIn, stepRules, runRules, bufferWith}
 use Rattle.runs.specs.Laws.Run.{ran-is, run, Good, good-taken, good-run, taken-version, runs}
@@ -59,8 +59,8 @@ at-start p d z =
     let s = accepted-start (length d) z in
     let e = empty-long in
     record {
-      good = record { fit = deck-fits Studio (deckOf 1 []) first-version tt (omega arith) (omega arith); short = omega arith; below = omega arith; room = s .0 };
-      fit = deck-fits p (deckOf 1 []) first-version tt (omega arith) (omega arith);
+      good = record { fit = deck-fits Studio (deckOf 1 []) (version-fits 1 (omega arith) (omega arith)) tt (omega arith) (omega arith); short = omega arith; below = omega arith; room = s .0 };
+      fit = deck-fits p (deckOf 1 []) (version-fits 1 (omega arith) (omega arith)) tt (omega arith) (omega arith);
       is = ap₂ (λ (a : List ℕ) (b : ℕ). (a, b)) (start-laid d (s .0)) (s .1 ∙ sym empty-long);
     }
 
