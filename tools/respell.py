@@ -1,6 +1,6 @@
 #!/usr/bin/env python3
-"""Respells this repository's own definitions and lemmas as the Rattle of docs/PORT.md does: words in snake case, types in camel case, and in a
-lemma's name a dash only beside a name. Modules and what Rust declares keep their names.
+"""Respells this repository's own definitions and lemmas as the Rattle of docs/PORT.md does: words in snake case, lemmas too, and types in
+camel case. Modules and what Rust declares keep their names.
 
 usage: respell.py [--list] FOLDER      FOLDER holds crates/; once, after port.py. --list prints the renamings and writes nothing.
 
@@ -18,8 +18,6 @@ DECLARED = re.compile(rf"(?m)^(?P<in>[ ]*)(?:(?:unfoldable|abbrev|pub|irrelevant
 KEYWORDS = {"use", "where", "module", "infixr", "infixl", "infix", "unfolding", "let", "in", "--"}
 MADE = re.compile(r"^(returns|loop|invariant|decreases)(-|$)")
 CAMEL = re.compile("[a-z][A-Z]")
-# names of std that end our lemmas' names
-STD = {"length", "append", "drop", "take", "set", "map", "reverse", "eqb", "leb", "ltb", "put", "sum"}
 
 
 def files(root, *ends):
@@ -58,12 +56,8 @@ def snake(word):
     return re.sub(r"(?<=[a-z0-9])([A-Z])", lambda m: "_" + m[1].lower(), word)
 
 
-def respelt(name, names):
-    parts = [snake(p) for p in name.split("-")]
-    new = parts[0]
-    for old, part in zip(name.split("-")[1:], parts[1:]):
-        new += ("-" if old in names or part in names or old in STD or old[:1].isupper() else "_") + part
-    return new
+def respelt(name):
+    return snake(re.sub(r"(?<=\w)-(?=\w)", "_", name))
 
 
 def clauses(source):
@@ -90,9 +84,7 @@ def main():
     listing = "--list" in args
     root = [a for a in args if not a.startswith("--")][0]
     found = declared(root)
-    plain = {n for n in found if "-" not in n}
-    names = plain | {snake(n) for n in plain}
-    table = {n: respelt(n, names) for n in found}
+    table = {n: respelt(n) for n in found}
     for n in types(root):
         table[n] = n[0].upper() + n[1:]
     fall = collections.defaultdict(list)

@@ -1,4 +1,6 @@
 // An element added to the last rule of a deck.
+#![tactic(auto)]
+
 ghost use Rattle.std.specs.Prelude.{◌+◌, ◌≤◌, ◌<◌, ◌≡◌, length};
 ghost use Rattle.buffer.specs.Laid.{put_in};
 ghost use Rattle.locate.specs.Laws.Located.{last_of};

@@ -1,4 +1,6 @@
 // A rule added at the end of a deck.
+#![tactic(auto)]
+
 ghost use Rattle.std.specs.Prelude.{ℕ, ◌+◌, ◌≤◌, ◌<◌, ◌≡◌, true, length};
 ghost use Rattle.buffer.specs.Laid.{put_in};
 ghost use Rattle.locate.specs.Laws.Located.{last_of};

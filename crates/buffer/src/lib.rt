@@ -1,4 +1,6 @@
 // Bytes put into a lent buffer; nothing is done where they would leave it.
+#![tactic(auto)]
+
 ghost use Rattle.std.specs.Prelude.{◌≡◌, ◌+◌, ◌-◌, ◌≤◌, length};
 ghost use Rattle.format.specs.ReadWrite.{spelt, bit};
 ghost use Rattle.buffer.specs.Laid.{put, put_in};

@@ -15,8 +15,8 @@ row_is y a b c p q r = sym (rw (p, q, r))
 abbrev table : List (List ℕ)
 table = lengths false ∷ lengths true ∷ []
 
-pub month-is : (y r m : ℕ) → r ≡ row (leap y) → get_or (get_or table r []) m 0 ≡ month_days y m
-month-is y r m e = ap (λ (i : ℕ). get_or (get_or table i []) m 0) e ∙ ap (λ (l : List ℕ). get_or l m 0) (at (leap y))
+pub month_is : (y r m : ℕ) → r ≡ row (leap y) → get_or (get_or table r []) m 0 ≡ month_days y m
+month_is y r m e = ap (λ (i : ℕ). get_or (get_or table i []) m 0) e ∙ ap (λ (l : List ℕ). get_or l m 0) (at (leap y))
   where
     at : (b : Bool) → get_or table (row b) [] ≡ lengths b
     at true = refl

@@ -30,10 +30,10 @@ years_days (suc k) = years_days k + year_days (100 + k)
 -- a date that the calendar has, from the year 100 on
 pub record Valid (c : Civil) : Type 0 where
   pub year : 100 ≤ c.year
-  pub month-low : 1 ≤ c.month
-  pub month-high : c.month ≤ 12
-  pub day-low : 1 ≤ c.day
-  pub day-high : c.day ≤ month_days c.year (c.month - 1)
+  pub month_low : 1 ≤ c.month
+  pub month_high : c.month ≤ 12
+  pub day_low : 1 ≤ c.day
+  pub day_high : c.day ≤ month_days c.year (c.month - 1)
 
 -- the number of a date's day: how many days lie between 1 January 100 and it
 unfoldable pub day_of : Civil → ℕ

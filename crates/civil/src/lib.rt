@@ -1,4 +1,6 @@
 // The civil calendar: the date of a day, by stepping through years and months.
+#![tactic(auto)]
+
 ghost use Rattle.std.specs.Prelude.{◌≡◌, ◌<◌};
 ghost use Rattle.civil.specs.Calendar.{leap, month_days, year_days, Valid, day_of};
 ghost use Rattle.civil.specs.Laws.Steps.{row, Years, Months};

@@ -1,4 +1,6 @@
 // Deck version 2 and back: the deck of the same rules in the other version.
+#![tactic(auto)]
+
 ghost use Rattle.std.specs.Prelude.{◌≤◌, ◌≡◌, length};
 ghost use Rattle.convert.specs.Convert.{Converts};
 ghost use Rattle.convert.specs.Laws.Convert.{taken_in, headed, Rewrites};

@@ -1,4 +1,6 @@
 // A word within an element's data as a part of the deck's bytes.
+#![tactic(auto)]
+
 ghost use Rattle.std.specs.Prelude.{length};
 ghost use Rattle.format.specs.Laws.Skip.{Skipped};
 ghost use Rattle.format.specs.Laws.Back.{Where};

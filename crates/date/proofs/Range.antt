@@ -48,16 +48,16 @@ room : (n : ℕ) (e : ℤ) → 0 < n → 0 < n * down e
 room n e h = mul-pos h (down_pos e)
 
 -- a double of the size a / c lies inside where the size is below the bound of its sign
-inside-value : (x : Float) (s : Bool) (a c : ℕ) → 0 < c → HasValue x s a c → (above x && below x) ≡ ltb a (bound s * c)
+inside_value : (x : Float) (s : Bool) (a c : ℕ) → 0 < c → HasValue x s a c → (above x && below x) ≡ ltb a (bound s * c)
 unfolding lt
-inside-value nan s a c C v = absurd v
-inside-value (inf t) s a c C v = absurd v
-inside-value (fin true m e) true a c C v =
+inside_value nan s a c C v = absurd v
+inside_value (inf t) s a c C v = absurd v
+inside_value (fin true m e) true a c C v =
     and_true (above (fin true m e)) (lt-ltb 0 (m * up e * 1 + 2958466 * down e) (omega (arith, room 2958466 e (lit< tt))))
     ∙ cross (m * up e) (down e) a c 657435 C (down_pos e) v.1
-inside-value (fin true m e) false a c C v = absurd (subst T v.0 tt)
-inside-value (fin false m e) true a c C v = absurd (subst T (sym v.0) tt)
-inside-value (fin false m e) false a c C v =
+inside_value (fin true m e) false a c C v = absurd (subst T v.0 tt)
+inside_value (fin false m e) true a c C v = absurd (subst T (sym v.0) tt)
+inside_value (fin false m e) false a c C v =
     ap (λ (t : Bool). t && below (fin false m e)) (lt-ltb 0 (657435 * down e + m * up e * 1) (omega (arith, room 657435 e (lit< tt))))
     ∙ cross (m * up e) (down e) a c 2958466 C (down_pos e) v.1
 
@@ -74,7 +74,7 @@ endless_out s false = refl
 -- exponent 0; exponent 2047; any other
 fields : (s : Bool) (x t : ℕ) → x ≤ 2047 → (above (of_fields binary64 s x t) && below (of_fields binary64 s x t)) ≡ (ltb x 2047 && ltb (scaled x t) (bound s * day))
 unfolding of_fields day
-fields s zero t h = inside-value (odd 53 s t 0 1074) s t day (pow_pos 1074) (rw mul-one at (odd_sign 53 s t 0 1074))
+fields s zero t h = inside_value (odd 53 s t 0 1074) s t day (pow_pos 1074) (rw mul-one at (odd_sign 53 s t 0 1074))
 fields s (suc x) t h = go (eqb (suc x) 2047) refl
   where
     go : (b : Bool) → eqb (suc x) 2047 ≡ b
@@ -82,7 +82,7 @@ fields s (suc x) t h = go (eqb (suc x) 2047) refl
         ≡ (ltb (suc x) 2047 && ltb ((2 ^ 52 + t) * 2 ^ x) (bound s * day))
     go true e = endless_out s (eqb t 0) ∙ ap (λ (b : Bool). b && ltb ((2 ^ 52 + t) * 2 ^ x) (bound s * day)) (sym (le-ltb (suc x) 2047 (omega (arith, eqb→eq (suc x) 2047 (subst T (sym e) tt)))))
     go false e =
-        inside-value (odd 53 s (2 ^ 52 + t) x 1074) s ((2 ^ 52 + t) * 2 ^ x) day (pow_pos 1074) (odd_sign 53 s (2 ^ 52 + t) x 1074)
+        inside_value (odd 53 s (2 ^ 52 + t) x 1074) s ((2 ^ 52 + t) * 2 ^ x) day (pow_pos 1074) (odd_sign 53 s (2 ^ 52 + t) x 1074)
         ∙ ap (λ (b : Bool). b && ltb ((2 ^ 52 + t) * 2 ^ x) (bound s * day)) (sym (lt-ltb (suc x) 2047 (omega (arith, eqb-false (suc x) 2047 e))))
 
 pub in_range : (bits : ℕ) → (above (of_bits binary64 bits) && below (of_bits binary64 bits)) ≡ accepted bits
@@ -93,8 +93,8 @@ in_range bits = fields (negative bits) (exponent bits) (digits bits) (omega arit
 pub both : (bits : ℕ) (a b : Bool) → above (of_bits binary64 bits) ≡ a → below (of_bits binary64 bits) ≡ b → (a && b) ≡ accepted bits
 both bits a b p q = sym (ap₂ (λ (x y : Bool). x && y) p q) ∙ in_range bits
 
-pub too-low : (bits : ℕ) → above (of_bits binary64 bits) ≡ false → false ≡ accepted bits
-too-low bits p = sym (ap (λ (x : Bool). x && below (of_bits binary64 bits)) p) ∙ in_range bits
+pub too_low : (bits : ℕ) → above (of_bits binary64 bits) ≡ false → false ≡ accepted bits
+too_low bits p = sym (ap (λ (x : Bool). x && below (of_bits binary64 bits)) p) ∙ in_range bits
 
 -- above an infinity's bits are those of not-a-numbers, and no others
 pub nan_out : (bits : ℕ) → 0x7FF0_0000_0000_0000 < bits % 2 ^ 63 → false ≡ accepted bits

@@ -1,4 +1,6 @@
 // The deck: a pass over it, and its check.
+#![tactic(auto)]
+
 ghost use Rattle.std.specs.Prelude.{◌≡◌, ◌+◌, ◌-◌, ◌*◌, ◌≤◌, length};
 ghost use Rattle.format.specs.Combinators.{number, each};
 ghost use Rattle.format.specs.Indexed.{indexed};

@@ -12,7 +12,7 @@ use Rattle.date.specs.Double.{negative, size, day, accepted}
 use Rattle.moment.specs.declared.Moment.{Moment}
 use Rattle.moment.specs.declared.Moment.TheVariants as Moment
 use Rattle.moment.specs.Moment.{origin, day_in, second_in, moment_says, Says}
-use Rattle.moment.specs.Laws.Moment.{says_at, says-no}
+use Rattle.moment.specs.Laws.Moment.{says_at, says_no}
 use Rattle.kind.specs.declared.Role.TheVariants.{Condition}
 use Rattle.kind.specs.declared.Kind.{Kind}
 use Rattle.kind.specs.declared.Kind.TheVariants.{Simple}
@@ -146,23 +146,23 @@ module _ (x : Bool × ℕ) (bits : ℕ) where
   abbrev no_tests : List Bool
   no_tests = eqb (size bits * 4) (x.1 * day) ∷ not (accepted bits) ∷ []
 
-  is-on : (y m d second : ℕ) → negative bits ≡ x.0 → All (on_tests y m d second) → Answers (date_of x bits) (on y m d second)
-  is-on y m d second e (z, (a, (n, (t, (y100, (m1, (m12, (d1, (dn, u))))))))) =
+  is_on_lem : (y m d second : ℕ) → negative bits ≡ x.0 → All (on_tests y m d second) → Answers (date_of x bits) (on y m d second)
+  is_on_lem y m d second e (z, (a, (n, (t, (y100, (m1, (m12, (d1, (dn, u))))))))) =
       let c : Civil = record { year = y; month = m; day = d } in
-      let v : Valid c = record { year = leb→le 100 y y100; month-low = leb→le 1 m m1; month-high = leb→le m 12 m12; day-low = leb→le 1 d d1; day-high = leb→le d (month_days y (m - 1)) dn } in (
+      let v : Valid c = record { year = leb→le 100 y y100; month_low = leb→le 1 m m1; month_high = leb→le m 12 m12; day_low = leb→le 1 d d1; day_high = leb→le d (month_days y (m - 1)) dn } in (
         (e, eqb→eq (size bits * 4) (x.1 * day) z),
         (Moment.At c second, (says_at bits c second (is_true (accepted bits) a) (v, eqb→eq (day_of c) (day_in bits) n) (eqb→eq second (second_in bits) t), refl)),
       )
 
-  date-on : (y m d second : ℕ) → negative bits ≡ x.0 → T (every (on_tests y m d second)) → Answers (date_of x bits) (on y m d second)
-  date-on y m d second e t = is-on y m d second e (all (on_tests y m d second) t)
+  date_on : (y m d second : ℕ) → negative bits ≡ x.0 → T (every (on_tests y m d second)) → Answers (date_of x bits) (on y m d second)
+  date_on y m d second e t = is_on_lem y m d second e (all (on_tests y m d second) t)
 
-  date-no : negative bits ≡ x.0 → T (every no_tests) → Answers (date_of x bits) (says 11 0)
-  date-no e t =
+  date_no : negative bits ≡ x.0 → T (every no_tests) → Answers (date_of x bits) (says 11 0)
+  date_no e t =
       let b = all no_tests t in
-      ((e, eqb→eq (size bits * 4) (x.1 * day) b.0), (Moment.No Fault.Date 0, (says-no bits (not-true (accepted bits) (is_true (not (accepted bits)) b.1.0)), refl)))
+      ((e, eqb→eq (size bits * 4) (x.1 * day) b.0), (Moment.No Fault.Date 0, (says_no bits (not-true (accepted bits) (is_true (not (accepted bits)) b.1.0)), refl)))
 
 pub cases_hold : AllAnswer cases
 unfolding ComputingDecks sample day leap months_days years_days day_of origin day_in second_in
 cases_hold =
-    (refl, (refl, (refl, (refl, (refl, (refl, (refl, (refl, (refl, (refl, (refl, (refl, (refl, (refl, (refl, (refl, (refl, (refl, (refl, (date-on (plus 2 2) _ 1900 1 1 noon refl tt, (date-on (minus 1 1) _ 1899 12 29 six refl tt, (date-on (minus 0 1) _ 1899 12 30 six refl tt, (date-on (minus 657434 0) _ 100 1 1 0 refl tt, (date-on (plus 2958465 2) _ 9999 12 31 noon refl tt, (date-no (minus 657435 0) _ refl tt, (date-no (plus 2958466 0) _ refl tt, tt))))))))))))))))))))))))))
+    (refl, (refl, (refl, (refl, (refl, (refl, (refl, (refl, (refl, (refl, (refl, (refl, (refl, (refl, (refl, (refl, (refl, (refl, (refl, (date_on (plus 2 2) _ 1900 1 1 noon refl tt, (date_on (minus 1 1) _ 1899 12 29 six refl tt, (date_on (minus 0 1) _ 1899 12 30 six refl tt, (date_on (minus 657434 0) _ 100 1 1 0 refl tt, (date_on (plus 2958465 2) _ 9999 12 31 noon refl tt, (date_no (minus 657435 0) _ refl tt, (date_no (plus 2958466 0) _ refl tt, tt))))))))))))))))))))))))))

@@ -18,10 +18,10 @@ use Rattle.element.specs.Data.{Data, one_zero, marker_data, simple_data, word_da
 use Rattle.element.specs.Element.{Element, element, identifier, data_by}
 use Rattle.rule.specs.Rule.{Rule, rule, body, head, placed, elements_in}
 use Rattle.rule.specs.Places.{rule_bytes, elements_bytes}
-use Rattle.rule.specs.Laws.Parts.{body-size, rule-long}
+use Rattle.rule.specs.Laws.Parts.{body_size, rule_long}
 use Rattle.deck.specs.Deck.{Deck, read_as}
-use Rattle.deck.specs.Laws.Deck.{read_writes-back}
-use Rattle.deck.specs.Laws.Written.{rules_as, base_least, written_as, written-long}
+use Rattle.deck.specs.Laws.Deck.{read_writes_back}
+use Rattle.deck.specs.Laws.Written.{rules_as, base_least, written_as, written_long}
 
 data_least : (k : Kind) (d : Data) → 4 ≤ length ((data_of k).write d)
 unfolding marker_data simple_data word_data size_data date_data limit flag date one_zero fixed listed counted count ◌then◌ seq pair pair_write via judged number spelt
@@ -62,7 +62,7 @@ body_least p i xs =
     omega (arith, length_before 2 (length xs) (h ++ e), length-append h e, elements_least p xs)
 
 rule_least : (p : Product) (i : ℕ) (r : Rule) → 10 * elements_in r ≤ rule_bytes p i r
-rule_least p i r = omega (arith, rule-long p i r, body-size p i r.elements, body_least p i r.elements)
+rule_least p i r = omega (arith, rule_long p i r, body_size p i r.elements, body_least p i r.elements)
 
 rules_least : (p : Product) (i : ℕ) (rs : List Rule) → 10 * total elements_in rs ≤ length (each_write (rule p) i rs)
 unfolding each_write total
@@ -70,12 +70,12 @@ rules_least p i [] = omega arith
 rules_least p i (r ∷ rs) = omega (arith, length-append ((rule p i).write r) (each_write (rule p) (i + 1) rs), rule_least p i r, rules_least p (i + 1) rs)
 
 -- each element takes at least 10 bytes of its deck
-pub elements-most : (p : Product) (s : List ℕ) (k : Deck) (n : ℕ) → Bytes s → read_as p s ≡ got k n → 7 + 10 * total elements_in k.rules ≤ length s
-elements-most p s k n b e =
+pub elements_most : (p : Product) (s : List ℕ) (k : Deck) (n : ℕ) → Bytes s → read_as p s ≡ got k n → 7 + 10 * total elements_in k.rules ≤ length s
+elements_most p s k n b e =
     let v = k.version in
     let rs = k.rules in
-    let w = read_writes-back p s k n b e in
-    omega (arith, ap length (w.is ∙ written_as v rs p), written-long v rs, base_least v (length rs), ap length (rules_as p 0 rs), rules_least p 0 rs)
+    let w = read_writes_back p s k n b e in
+    omega (arith, ap length (w.is ∙ written_as v rs p), written_long v rs, base_least v (length rs), ap length (rules_as p 0 rs), rules_least p 0 rs)
 
-pub elements-bound : (p : Product) (s : List ℕ) (k : Deck) (n : ℕ) → Bytes s → read_as p s ≡ got k n → total elements_in k.rules ≤ 5999
-elements-bound p s k n b e = omega (arith, elements-most p s k n b e, (read_writes-back p s k n b e).short)
+pub elements_bound : (p : Product) (s : List ℕ) (k : Deck) (n : ℕ) → Bytes s → read_as p s ≡ got k n → total elements_in k.rules ≤ 5999
+elements_bound p s k n b e = omega (arith, elements_most p s k n b e, (read_writes_back p s k n b e).short)

@@ -8,7 +8,7 @@ use Rattle.format.specs.declared.Fault.TheVariants as Fault
 use Rattle.format.specs.declared.Outcome.TheVariants as Outcome
 use Rattle.format.specs.Format.{pick, Bytes}
 use Rattle.format.specs.ReadWrite.{bit}
-use Rattle.format.specs.Laws.ReadWrite.{eqb-bit}
+use Rattle.format.specs.Laws.ReadWrite.{eqb_bit}
 use Rattle.format.specs.Combinators.{pair, seq, via, number}
 use Rattle.format.specs.Laws.Combinators.{then_fit}
 use Rattle.buffer.specs.Laid.{put}
@@ -22,11 +22,11 @@ use Rattle.value.specs.declared.Value.TheVariants as Value
 use Rattle.value.specs.declared.Valued.TheVariants as Valued
 use Rattle.element.specs.Data.{Data, sizes_of, span_of, size_data, data_of}
 use Rattle.value.specs.Value.{value_in, value_case, value_answer, value_of}
-use Rattle.value.specs.Laws.Dates.{value-has, has-is}
+use Rattle.value.specs.Laws.Dates.{value_has, has_is}
 use Rattle.put.specs.Plan.{putting, plan_kind, plan_data, is_of, lacks, write, deny}
 use Rattle.lent.specs.Lent.{value_width, lent_leaves}
 use Rattle.put_table.specs.Table.{no_value, by_simple, by_size, by_dates, by_case, value_from}
-use Rattle.demands.specs.RoundTrip.{alone, HandedValue, value_writes-back}
+use Rattle.demands.specs.RoundTrip.{alone, HandedValue, value_writes_back}
 
 -- the numbers of a value, put at the start of a table with room for every case, say that value
 flags : (b : Bool) → leb (bit b) 1 ≡ true
@@ -37,18 +37,18 @@ flags false = refl
 long : (n : ℕ) → leb 5 (suc (suc (suc (suc (suc n))))) ≡ true
 long n = le-leb 5 (suc (suc (suc (suc (suc n))))) (omega arith)
 
-said-back : (v : Value) (t : List ℕ) → HandedValue v → alone v ≡ true → 5 ≤ length t → value_from (put t 0 (value_case v)) ≡ v
+said_back : (v : Value) (t : List ℕ) → HandedValue v → alone v ≡ true → 5 ≤ length t → value_from (put t 0 (value_case v)) ≡ v
 unfolding value_from by_case by_simple by_size by_dates put pick
-said-back v [] h a l = absurd (omega arith)
-said-back v (x ∷ []) h a l = absurd (omega arith)
-said-back v (x ∷ y ∷ []) h a l = absurd (omega arith)
-said-back v (x ∷ y ∷ z ∷ []) h a l = absurd (omega arith)
-said-back v (x ∷ y ∷ z ∷ w ∷ []) h a l = absurd (omega arith)
-said-back Value.Marker (x ∷ y ∷ z ∷ w ∷ u ∷ t) h a l = rw (long (length t))
-said-back (Value.Simple n) (x ∷ y ∷ z ∷ w ∷ u ∷ t) h a l = rw (long (length t), lt-ltb n (2 ^ 32) h)
-said-back (Value.Size m n) (x ∷ y ∷ z ∷ w ∷ u ∷ t) h a l = rw (long (length t), lt-ltb m (2 ^ 32) h.0, lt-ltb n (2 ^ 32) h.1)
-said-back (Value.Dates v) (x ∷ y ∷ z ∷ w ∷ u ∷ t) h a l = rw (long (length t), flags v.starts, flags v.ends, eqb-bit v.starts, eqb-bit v.ends, of_bits-to_bits binary64 v.after (subst T (sym h.0) tt), of_bits-to_bits binary64 v.before (subst T (sym h.1) tt))
-said-back (Value.Words n) (x ∷ y ∷ z ∷ w ∷ u ∷ t) h a l = absurd (let z : ◌≡◌ {A = ℕ} 0 1 = cc in omega arith)
+said_back v [] h a l = absurd (omega arith)
+said_back v (x ∷ []) h a l = absurd (omega arith)
+said_back v (x ∷ y ∷ []) h a l = absurd (omega arith)
+said_back v (x ∷ y ∷ z ∷ []) h a l = absurd (omega arith)
+said_back v (x ∷ y ∷ z ∷ w ∷ []) h a l = absurd (omega arith)
+said_back Value.Marker (x ∷ y ∷ z ∷ w ∷ u ∷ t) h a l = rw (long (length t))
+said_back (Value.Simple n) (x ∷ y ∷ z ∷ w ∷ u ∷ t) h a l = rw (long (length t), lt-ltb n (2 ^ 32) h)
+said_back (Value.Size m n) (x ∷ y ∷ z ∷ w ∷ u ∷ t) h a l = rw (long (length t), lt-ltb m (2 ^ 32) h.0, lt-ltb n (2 ^ 32) h.1)
+said_back (Value.Dates v) (x ∷ y ∷ z ∷ w ∷ u ∷ t) h a l = rw (long (length t), flags v.starts, flags v.ends, eqb_bit v.starts, eqb_bit v.ends, of_bits-to_bits binary64 v.after (subst T (sym h.0) tt), of_bits-to_bits binary64 v.before (subst T (sym h.1) tt))
+said_back (Value.Words n) (x ∷ y ∷ z ∷ w ∷ u ∷ t) h a l = absurd (let z : ◌≡◌ {A = ℕ} 0 1 = cc in omega arith)
 
 -- ---- those that lone data of an identifier of 32 bits have are such
 
@@ -65,19 +65,19 @@ handed_data id h (Kind.Size r) d f = let g = then_fit _ _ (sizes_of d) f.0 in (o
 handed_data id h (Kind.Dates r) d f = (is_true _ (of_bits-fits binary64 (span_of d).0.at), is_true _ (of_bits-fits binary64 (span_of d).1.at))
 
 -- "data turned into a value and back", through a table: the same bytes
-pub table_writes-back : (edition id : ℕ) (s : List ℕ) (v : Value) (t : List ℕ) (room : ℕ) → Bytes s → id < 2 ^ 32 → alone v ≡ true → value_of edition id s ≡ Valued.Is v → value_width ≤ length t → length s ≤ room
+pub table_writes_back : (edition id : ℕ) (s : List ℕ) (v : Value) (t : List ℕ) (room : ℕ) → Bytes s → id < 2 ^ 32 → alone v ≡ true → value_of edition id s ≡ Valued.Is v → value_width ≤ length t → length s ≤ room
     → putting edition id (value_from (lent_leaves value_width t (value_answer edition id s))) room ≡ write s
 unfolding lent_leaves pick
-table_writes-back edition id s v t room b h a e l r =
+table_writes_back edition id s v t room b h a e l r =
     let x : lent_leaves value_width t (value_answer edition id s) ≡ put t 0 (value_case v) = rw (e, le-leb 5 (length t) l) in
-    let y : value_from (put t 0 (value_case v)) ≡ v = said-back v t (has-is HandedValue e refl (value-has HandedValue id (handed_data id h) edition s b)) a l in
-    ap (λ (u : Value). putting edition id u room) (ap value_from x ∙ y) ∙ value_writes-back edition id s v room b a e r
+    let y : value_from (put t 0 (value_case v)) ≡ v = said_back v t (has_is HandedValue e refl (value_has HandedValue id (handed_data id h) edition s b)) a l in
+    ap (λ (u : Value). putting edition id u room) (ap value_from x ∙ y) ∙ value_writes_back edition id s v room b a e r
 
 -- ---- a table that says no value: 40 at 0, in that place of the order
 
-pub no-value-refused : (edition id room : ℕ) (p : Product) (k : Kind) → edition_of edition ≡ Edition.Of p → row_of p id ≡ Row.Is k → putting edition id no_value room ≡ deny (Outcome.Given Fault.Field 0)
+pub no_value_refused : (edition id room : ℕ) (p : Product) (k : Kind) → edition_of edition ≡ Edition.Of p → row_of p id ≡ Row.Is k → putting edition id no_value room ≡ deny (Outcome.Given Fault.Field 0)
 unfolding putting plan_kind pick
-no-value-refused edition id room p k e f = rw (e, f) (go (is_of k id no_value))
+no_value_refused edition id room p k e f = rw (e, f) (go (is_of k id no_value))
   where
     go : (b : Bool) → plan_data (data_of k) room (pick b (lacks Fault.Field 0) (lacks Fault.Field 0)) ≡ deny (Outcome.Given Fault.Field 0)
     go true = refl

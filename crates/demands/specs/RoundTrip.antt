@@ -29,18 +29,18 @@ use Rattle.value.specs.declared.Value.TheVariants as Value
 use Rattle.value.specs.declared.Valued.{Valued}
 use Rattle.value.specs.declared.Valued.TheVariants as Valued
 use Rattle.value.specs.Value.{floats, value_in, from_data, from_kind, from_row, from_edition, value_of}
-use Rattle.value.specs.Laws.Dates.{limit-back}
+use Rattle.value.specs.Laws.Dates.{limit_back}
 use Rattle.put.specs.Plan.{after_of, before_of, Fitted, holds, lacks, from_span, from_value, shape, is_of, Putting, write, deny, if_room, plan_data, plan_kind, plan_row, plan_edition, putting, Puts}
-use Rattle.put.specs.Laws.Put.{format_by, shaped, shape_of, of-shape}
+use Rattle.put.specs.Laws.Put.{format_by, shaped, shape_of, of_shape}
 
 -- ---- what each promise allows is one outcome
 
-pub value-of-one : (edition id : ℕ) (s : List ℕ) {a b : Valued} → a ≡ value_of edition id s → b ≡ value_of edition id s → a ≡ b
-value-of-one edition id s e f = e ∙ sym f
+pub value_of_one : (edition id : ℕ) (s : List ℕ) {a b : Valued} → a ≡ value_of edition id s → b ≡ value_of edition id s → a ≡ b
+value_of_one edition id s e f = e ∙ sym f
 
-pub put-value-one : (edition id : ℕ) (v : Value) (xs : List ℕ) {a b : Outcome} {ys zs : List ℕ}
+pub put_value_one : (edition id : ℕ) (v : Value) (xs : List ℕ) {a b : Outcome} {ys zs : List ℕ}
     → Puts xs (putting edition id v (length xs)) a ys → Puts xs (putting edition id v (length xs)) b zs → (a ≡ b) × (ys ≡ zs)
-put-value-one edition id v xs e f = (e.0 ∙ sym f.0, e.1 ∙ sym f.1)
+put_value_one edition id v xs e f = (e.0 ∙ sym f.0, e.1 ∙ sym f.1)
 
 -- ---- cases that cannot be
 
@@ -63,12 +63,12 @@ alone (Value.Size a b) = true
 alone (Value.Dates v) = true
 alone (Value.Words n) = false
 
-span-back : (d : Data) (room : ℕ) → date_data.Fit d → plan_data date_data room (from_span (floats (span_of d))) ≡ if_room room (date_data.write d)
+span_back : (d : Data) (room : ℕ) → date_data.Fit d → plan_data date_data room (from_span (floats (span_of d))) ≡ if_room room (date_data.write d)
 unfolding date_data seq pair via from_span pick
-span-back d room f =
+span_back d room f =
     let g = then_fit _ _ (span_of d) f.0 in
-    let a = limit-back (span_of d).0 g.0 in
-    let b = limit-back (span_of d).1 g.1 in
+    let a = limit_back (span_of d).0 g.0 in
+    let b = limit_back (span_of d).1 g.1 in
     rw (a.1, b.1, a.0, b.0)
 
 again : (k : Kind) (id : ℕ) (d : Data) (room : ℕ) → (data_of k).Fit d → alone (value_in k id d) ≡ true → plan_kind k id (value_in k id d) room ≡ if_room room ((data_of k).write d)
@@ -77,15 +77,15 @@ again Kind.Marker id d room f a = refl
 again (Kind.Simple r) id d room f a = rw (eq-eqb id id refl)
 again Kind.WordList id d room f a = absurd (let z : ◌≡◌ {A = ℕ} 0 1 = cc in omega arith)
 again (Kind.Size r) id d room f a = refl
-again (Kind.Dates r) id d room f a = span-back d room f
+again (Kind.Dates r) id d room f a = span_back d room f
 
 room_for_lem : (room : ℕ) (s : List ℕ) → length s ≤ room → if_room room s ≡ write s
 unfolding if_room pick
 room_for_lem room s h = rw (le-leb (length s) room h)
 
-kind-back : (k : Kind) (id : ℕ) (s : List ℕ) (v : Value) (room : ℕ) → Bytes s → alone v ≡ true → from_kind k id s ≡ Valued.Is v → length s ≤ room → plan_kind k id v room ≡ write s
+kind_back : (k : Kind) (id : ℕ) (s : List ℕ) (v : Value) (room : ℕ) → Bytes s → alone v ≡ true → from_kind k id s ≡ Valued.Is v → length s ≤ room → plan_kind k id v room ≡ write s
 unfolding from_kind whole pick
-kind-back k id s v room bs a e h = go ((data_of k).read s) refl e
+kind_back k id s v room bs a e h = go ((data_of k).read s) refl e
   where
     ends : (d : Data) (n : ℕ) (t : Bool) → (data_of k).read s ≡ got d n → eqb n (length s) ≡ t → from_data k id (pick t (got d n) (refused Fault.Over n)) ≡ Valued.Is v → plan_kind k id v room ≡ write s
     ends d n true r t x =
@@ -101,12 +101,12 @@ kind-back k id s v room bs a e h = go ((data_of k).read s) refl e
     go (refused c p) r x = unlike refl x
 
 -- "data turned into a value and back": the same bytes
-pub value_writes-back : (edition id : ℕ) (s : List ℕ) (v : Value) (room : ℕ) → Bytes s → alone v ≡ true → value_of edition id s ≡ Valued.Is v → length s ≤ room → putting edition id v room ≡ write s
+pub value_writes_back : (edition id : ℕ) (s : List ℕ) (v : Value) (room : ℕ) → Bytes s → alone v ≡ true → value_of edition id s ≡ Valued.Is v → length s ≤ room → putting edition id v room ≡ write s
 unfolding value_of putting
-value_writes-back edition id s v room bs a e h = by (edition_of edition) e
+value_writes_back edition id s v room bs a e h = by (edition_of edition) e
   where
     of : (r : Row) → from_row r id s ≡ Valued.Is v → plan_row r id v room ≡ write s
-    of (Row.Is k) x = kind-back k id s v room bs a x h
+    of (Row.Is k) x = kind_back k id s v room bs a x h
     of (Row.No c p) x = unlike refl x
 
     by : (d : Edition) → from_edition d id s ≡ Valued.Is v → plan_edition d id v room ≡ write s
@@ -123,17 +123,17 @@ HandedValue (Value.Size a b) = (a < 2 ^ 32) × (b < 2 ^ 32)
 HandedValue (Value.Dates v) = (fits binary64 v.after ≡ true) × (fits binary64 v.before ≡ true)
 HandedValue (Value.Words n) = Unit {0}
 
-one_zero-fit : one_zero.Fit tt
+one_zero_fit : one_zero.Fit tt
 unfolding one_zero fixed ◌then◌ seq pair via judged number
-one_zero-fit = ((((omega arith, refl), refl), ((omega arith, refl), refl)), refl)
+one_zero_fit = ((((omega arith, refl), refl), ((omega arith, refl), refl)), refl)
 
-marker-fit : marker_data.Fit plain
+marker_fit : marker_data.Fit plain
 unfolding marker_data ◌then◌ seq pair via fixed judged number
-marker-fit = (((one_zero-fit, ((omega arith, refl), refl)), refl), refl)
+marker_fit = (((one_zero_fit, ((omega arith, refl), refl)), refl), refl)
 
-date-fit : (x : Float) → fits binary64 x ≡ true → accepted (to_bits binary64 x) ≡ true → date.Fit (to_bits binary64 x)
+date_fit : (x : Float) → fits binary64 x ≡ true → accepted (to_bits binary64 x) ≡ true → date.Fit (to_bits binary64 x)
 unfolding date judged number
-date-fit x f a = (let l = to_bits-lt binary64 x (subst T (sym f) tt) in omega arith, a)
+date_fit x f a = (let l = to_bits-lt binary64 x (subst T (sym f) tt) in omega arith, a)
 
 -- the value in data by their shape
 value_by : ℕ → ℕ → Data → Value
@@ -148,52 +148,52 @@ valued Kind.WordList id d = refl
 valued (Kind.Size r) id d = refl
 valued (Kind.Dates r) id d = refl
 
-limit-fits : (b : Bool) (n : ℕ) → date.Fit n → limit.Fit (record { set = b; at = n })
+limit_fits : (b : Bool) (n : ℕ) → date.Fit n → limit.Fit (record { set = b; at = n })
 unfolding limit flag bit pick fixed ◌then◌ seq pair via judged number
-limit-fits true n f = ((((omega arith, refl), refl), ((((omega arith, refl), refl), f), refl)), refl)
-limit-fits false n f = ((((omega arith, refl), refl), ((((omega arith, refl), refl), f), refl)), refl)
+limit_fits true n f = ((((omega arith, refl), refl), ((((omega arith, refl), refl), f), refl)), refl)
+limit_fits false n f = ((((omega arith, refl), refl), ((((omega arith, refl), refl), f), refl)), refl)
 
 -- no refusal, taken apart
-not-lacks : {B : Type 0} {x : Fitted} {c : Fault} {p : ℕ} {d : Data} → x ≡ lacks c p → x ≡ holds d → B
-not-lacks e f = absurd (let z : ◌≡◌ {A = ℕ} 0 1 = cc in omega arith)
+not_lacks : {B : Type 0} {x : Fitted} {c : Fault} {p : ℕ} {d : Data} → x ≡ lacks c p → x ≡ holds d → B
+not_lacks e f = absurd (let z : ◌≡◌ {A = ℕ} 0 1 = cc in omega arith)
 
 record Dated (v : Span) (d : Data) : Type 0 where
   pub is : d ≡ span (after_of v) (before_of v)
   pub first : accepted (to_bits binary64 v.after) ≡ true
   pub last : accepted (to_bits binary64 v.before) ≡ true
 
-dated-is : (v : Span) (d : Data) → from_span v ≡ holds d → Dated v d
+dated_is : (v : Span) (d : Data) → from_span v ≡ holds d → Dated v d
 unfolding from_span pick
-dated-is v d e = go (accepted (to_bits binary64 v.after)) (accepted (to_bits binary64 v.before)) refl refl e
+dated_is v d e = go (accepted (to_bits binary64 v.after)) (accepted (to_bits binary64 v.before)) refl refl e
   where
     go : (a b : Bool) → accepted (to_bits binary64 v.after) ≡ a → accepted (to_bits binary64 v.before) ≡ b
         → pick a (pick b (holds (span (after_of v) (before_of v))) (lacks Fault.Date 32)) (lacks Fault.Date 16) ≡ holds d → Dated v d
     go true true x y w = record { is = (cc); first = x; last = y }
-    go true false x y w = not-lacks refl w
-    go false b x y w = not-lacks refl w
+    go true false x y w = not_lacks refl w
+    go false b x y w = not_lacks refl w
 
 fit_of : (v : Value) (d : Data) → HandedValue v → from_value v ≡ holds d → (format_by (shape_of v)).Fit d
 unfolding format_by shape_of pick simple_data size_data date_data ◌then◌ seq pair via number
-fit_of Value.Marker d h e = let y : d ≡ plain = cc in rw y marker-fit
-fit_of (Value.Simple n) d h e = let y : d ≡ plain = cc in rw y (one_zero-fit, refl)
-fit_of (Value.Size a b) d h e = let y : d ≡ sizes a b = cc in rw y (((one_zero-fit, h), refl), refl)
+fit_of Value.Marker d h e = let y : d ≡ plain = cc in rw y marker_fit
+fit_of (Value.Simple n) d h e = let y : d ≡ plain = cc in rw y (one_zero_fit, refl)
+fit_of (Value.Size a b) d h e = let y : d ≡ sizes a b = cc in rw y (((one_zero_fit, h), refl), refl)
 fit_of (Value.Dates v) d h e =
-    let y = dated-is v d e in
-    rw y.is (((one_zero-fit, (limit-fits v.starts _ (date-fit v.after h.0 y.first), limit-fits v.ends _ (date-fit v.before h.1 y.last))), refl), refl)
-fit_of (Value.Words n) d h e = not-lacks refl e
+    let y = dated_is v d e in
+    rw y.is (((one_zero_fit, (limit_fits v.starts _ (date_fit v.after h.0 y.first), limit_fits v.ends _ (date_fit v.before h.1 y.last))), refl), refl)
+fit_of (Value.Words n) d h e = not_lacks refl e
 
 and_right : (a b : Bool) → (a && b) ≡ true → b ≡ true
 and_right true b h = h
 and_right false b h = absurd (let z : ◌≡◌ {A = ℕ} 0 1 = cc in omega arith)
 
-value-of_data : (k : Kind) (id : ℕ) (v : Value) (d : Data) → HandedValue v → is_of k id v ≡ true → from_value v ≡ holds d → value_by (shape_of v) id d ≡ v
+value_of_data : (k : Kind) (id : ℕ) (v : Value) (d : Data) → HandedValue v → is_of k id v ≡ true → from_value v ≡ holds d → value_by (shape_of v) id d ≡ v
 unfolding value_by shape_of is_of pick
-value-of_data k id Value.Marker d h i e = refl
-value-of_data k id (Value.Simple n) d h i e = ap Value.Simple (sym (eqb-true n id (and_right (eqb (shape k) 2) (eqb n id) i)))
-value-of_data k id (Value.Size a b) d h i e = let y : d ≡ sizes a b = cc in rw y
-value-of_data k id (Value.Dates v) d h i e =
-    rw ((dated-is v d e).is, of_bits-to_bits binary64 v.after (subst T (sym h.0) tt), of_bits-to_bits binary64 v.before (subst T (sym h.1) tt))
-value-of_data k id (Value.Words n) d h i e = not-lacks refl e
+value_of_data k id Value.Marker d h i e = refl
+value_of_data k id (Value.Simple n) d h i e = ap Value.Simple (sym (eqb-true n id (and_right (eqb (shape k) 2) (eqb n id) i)))
+value_of_data k id (Value.Size a b) d h i e = let y : d ≡ sizes a b = cc in rw y
+value_of_data k id (Value.Dates v) d h i e =
+    rw ((dated_is v d e).is, of_bits-to_bits binary64 v.after (subst T (sym h.0) tt), of_bits-to_bits binary64 v.before (subst T (sym h.1) tt))
+value_of_data k id (Value.Words n) d h i e = not_lacks refl e
 
 -- what fits is read whole
 whole_back : (k : Kind) (id : ℕ) (d : Data) → (data_of k).Fit d → from_kind k id ((data_of k).write d) ≡ Valued.Is (value_in k id d)
@@ -202,17 +202,17 @@ whole_back k id d f =
     let b : (data_of k).read ((data_of k).write d) ≡ got d (length ((data_of k).write d)) = rw append-nil at ((data_of k).back d [] f) in
     rw (b, eq-eqb (length ((data_of k).write d)) (length ((data_of k).write d)) refl)
 
-kind-forth : (k : Kind) (id : ℕ) (v : Value) (room : ℕ) (bs : List ℕ) → HandedValue v → plan_kind k id v room ≡ write bs → from_kind k id bs ≡ Valued.Is v
+kind_forth : (k : Kind) (id : ℕ) (v : Value) (room : ℕ) (bs : List ℕ) → HandedValue v → plan_kind k id v room ≡ write bs → from_kind k id bs ≡ Valued.Is v
 unfolding plan_kind if_room pick
-kind-forth k id v room bs h e = is (is_of k id v) refl e
+kind_forth k id v room bs h e = is (is_of k id v) refl e
   where
     fit : (d : Data) (t : Bool) → is_of k id v ≡ true → from_value v ≡ holds d → pick t (write ((data_of k).write d)) (deny (Outcome.No Fault.Room 0)) ≡ write bs → from_kind k id bs ≡ Valued.Is v
     fit d true i f x =
-        let s = of-shape k id v i in
+        let s = of_shape k id v i in
         let w : bs ≡ (data_of k).write d = cc in
         let z : data_of k ≡ format_by (shape_of v) = shaped k ∙ ap format_by s in
         let g : (data_of k).Fit d = rw z (fit_of v d h f) in
-        ap (from_kind k id) w ∙ whole_back k id d g ∙ ap Valued.Is (valued k id d ∙ ap (λ (n : ℕ). value_by n id d) s ∙ value-of_data k id v d h i f)
+        ap (from_kind k id) w ∙ whole_back k id d g ∙ ap Valued.Is (valued k id d ∙ ap (λ (n : ℕ). value_by n id d) s ∙ value_of_data k id v d h i f)
     fit d false i f x = unwritten refl x
 
     has : (q : Fitted) → is_of k id v ≡ true → from_value v ≡ q → plan_data (data_of k) room q ≡ write bs → from_kind k id bs ≡ Valued.Is v
@@ -224,12 +224,12 @@ kind-forth k id v room bs h e = is (is_of k id v) refl e
     is false i x = unwritten refl x
 
 -- "a value turned into data" and read: the same value
-pub data-reads-back : (edition id : ℕ) (v : Value) (room : ℕ) (bs : List ℕ) → HandedValue v → putting edition id v room ≡ write bs → value_of edition id bs ≡ Valued.Is v
+pub data_reads_back : (edition id : ℕ) (v : Value) (room : ℕ) (bs : List ℕ) → HandedValue v → putting edition id v room ≡ write bs → value_of edition id bs ≡ Valued.Is v
 unfolding value_of putting
-data-reads-back edition id v room bs h e = by (edition_of edition) e
+data_reads_back edition id v room bs h e = by (edition_of edition) e
   where
     of : (r : Row) → plan_row r id v room ≡ write bs → from_row r id bs ≡ Valued.Is v
-    of (Row.Is k) x = kind-forth k id v room bs h x
+    of (Row.Is k) x = kind_forth k id v room bs h x
     of (Row.No c p) x = unwritten refl x
 
     by : (d : Edition) → plan_edition d id v room ≡ write bs → from_edition d id bs ≡ Valued.Is v

@@ -14,10 +14,10 @@ use Rattle.format.specs.declared.Fault.TheVariants as Fault
 use Rattle.format.specs.declared.Outcome.TheVariants.{Done, No}
 use Rattle.format.specs.Format.{Format, Answer, got, refused, Bytes, pick}
 use Rattle.format.specs.ReadWrite.{pair_write, spelt, bit, each_write}
-use Rattle.format.specs.Laws.ReadWrite.{length-spelt}
+use Rattle.format.specs.Laws.ReadWrite.{length_spelt}
 use Rattle.format.specs.Combinators.{pair, via, judged, seq, ◌then◌, number, fixed}
 use Rattle.format.specs.Row.{total, start_in}
-use Rattle.text.specs.Laws.Written.{string-long}
+use Rattle.text.specs.Laws.Written.{string_long}
 use Rattle.kind.specs.declared.Product.{Product}
 use Rattle.kind.specs.declared.Edition.{Edition}
 use Rattle.kind.specs.declared.Edition.TheVariants as Edition
@@ -31,10 +31,10 @@ use Rattle.deck.specs.Written.{deck_of, start_of}
 use Rattle.deck.specs.Laws.Written.{start_as}
 use Rattle.fill.specs.Rows.{rows_of, rule_width, element_width, rule_row, rule_rows, element_row, rule_element_rows, all_element_rows}
 use Rattle.tables.specs.Tables.{in_tables, tabled, read_says, rules_after, elements_after}
-use Rattle.fill.specs.Laws.Fill.{put_front, total-one}
-use Rattle.fill.specs.Laws.Parts.{element_rows-long, rule_rows-long, all_rows-long}
+use Rattle.fill.specs.Laws.Fill.{put_front, total_one}
+use Rattle.fill.specs.Laws.Parts.{element_rows_long, rule_rows_long, all_rows_long}
 use Rattle.demands.specs.Places.{Between, UnitsOf, element_start}
-use Rattle.demands.specs.Laws.Places.{between, four-between, string-units, rule-stands, element-stands}
+use Rattle.demands.specs.Laws.Places.{between, four_between, string_units, rule_stands, element_stands}
 
 -- "start, end, first byte of the name's units, number of elements"; document 02, W8: "a fifth number, the offset of" Enabled: a row of rule k of rs in version v, which is r
 pub record RuleRow (p : Product) (v : ℕ) (s : List ℕ) (rs : List Rule) (k : ℕ) (r : Rule) (row : List ℕ) : Type 0 where
@@ -61,20 +61,20 @@ pub record ElementRow (p : Product) (v : ℕ) (s : List ℕ) (rs : List Rule) (k
 -- ---- rows of w numbers, f x of them for each x
 module _ {A : Type 0} (a : ℕ → Format A) (row : ℕ → ℕ → A → List ℕ) (w : ℕ) (f : A → ℕ) (long : (i at : ℕ) (x : A) → length (row i at x) ≡ w * f x) where
   -- those of value k stand behind those of the values before it
-  rows-from : (i at k : ℕ) (xs : List A) {x : A} {ys : List A} (t : List ℕ) → drop k xs ≡ x ∷ ys
+  rows_from : (i at k : ℕ) (xs : List A) {x : A} {ys : List A} (t : List ℕ) → drop k xs ≡ x ∷ ys
       → (u : List ℕ) × (drop (w * total f (take k xs)) (rows_of a row i at xs ++ t) ≡ row (i + k) (at + length (each_write a i (take k xs))) x ++ u)
   unfolding rows_of total each_write
-  rows-from i at zero [] t d = absurd (let z : ◌≡◌ {A = ℕ} 0 1 = cc in omega arith)
-  rows-from i at zero (y ∷ xs) {x} t d =
+  rows_from i at zero [] t d = absurd (let z : ◌≡◌ {A = ℕ} 0 1 = cc in omega arith)
+  rows_from i at zero (y ∷ xs) {x} t d =
       let z : y ≡ x = cc in
       let rest = rows_of a row (i + 1) (at + length ((a i).write y)) xs in
       let none : w * 0 ≡ 0 = omega arith in
       (rest ++ t, rw (none, add-zero i, add-zero at, ← z) (append_assoc (row i at y) rest t))
-  rows-from i at (suc k) [] t d = absurd (let z : ◌≡◌ {A = ℕ} 0 1 = cc in omega arith)
-  rows-from i at (suc k) (y ∷ xs) t d =
+  rows_from i at (suc k) [] t d = absurd (let z : ◌≡◌ {A = ℕ} 0 1 = cc in omega arith)
+  rows_from i at (suc k) (y ∷ xs) t d =
       let b = (a i).write y in
       let bs = each_write a (i + 1) (take k xs) in
-      let v = rows-from (i + 1) (at + length b) k xs t d in
+      let v = rows_from (i + 1) (at + length b) k xs t d in
       let m : w * (f y + total f (take k xs)) ≡ length (row i at y) + w * total f (take k xs) = omega (arith, long i at y) in
       let ei : i + 1 + k ≡ i + suc k = omega arith in
       let ea : at + length b + length bs ≡ at + length (b ++ bs) = omega (arith, length-append b bs) in
@@ -82,23 +82,23 @@ module _ {A : Type 0} (a : ℕ → Format A) (row : ℕ → ℕ → A → List �
 
   rows_at : (at k : ℕ) (xs : List A) {x : A} {ys : List A} (t : List ℕ) → drop k xs ≡ x ∷ ys → (u : List ℕ) × (drop (w * total f (take k xs)) (rows_of a row 0 at xs ++ t) ≡ row k (start_in a at xs k) x ++ u)
   unfolding start_in
-  rows_at at k xs t d = let z : 0 + k ≡ k = zero-add k in rw z at (rows-from 0 at k xs t d)
+  rows_at at k xs t d = let z : 0 + k ≡ k = zero-add k in rw z at (rows_from 0 at k xs t d)
 
 -- one for each
 row_at : {A : Type 0} (a : ℕ → Format A) (row : ℕ → ℕ → A → List ℕ) (w : ℕ) → ((i at : ℕ) (x : A) → length (row i at x) ≡ w) → (at k : ℕ) (xs : List A) {x : A} {ys : List A} (t : List ℕ) → drop k xs ≡ x ∷ ys
     → (u : List ℕ) × (drop (w * k) (rows_of a row 0 at xs ++ t) ≡ row k (start_in a at xs k) x ++ u)
 row_at a row w long at k xs t d =
-    let z : total (λ x. 1) (take k xs) ≡ k = total-one (take k xs) ∙ length-take-le k xs (omega (arith, length-drop k xs, ap length d)) in
+    let z : total (λ x. 1) (take k xs) ≡ k = total_one (take k xs) ∙ length-take-le k xs (omega (arith, length-drop k xs, ap length d)) in
     rw z at (rows_at a row w (λ x. 1) (λ i o x. omega (arith, long i o x)) at k xs t d)
 
 -- an element's data end where it ends
-placed-long : (p : Product) (i : ℕ) (x : Element) → length ((placed p i).write x) ≡ pick (eqb i 0) 4 6 + length ((data_by (row_in kinds x.0)).write x.1)
+placed_long : (p : Product) (i : ℕ) (x : Element) → length ((placed p i).write x) ≡ pick (eqb i 0) 4 6 + length ((data_by (row_in kinds x.0)).write x.1)
 unfolding placed pick element identifier ◌then◌ seq via pair pair_write judged number fixed
-placed-long p i x = go (eqb i 0)
+placed_long p i x = go (eqb i 0)
   where
     go : (b : Bool) → length ((pick b (element p) (separator then element p)).write x) ≡ pick b 4 6 + length ((data_by (row_in kinds x.0)).write x.1)
-    go true = simp (length-append, length-spelt)
-    go false = simp (length-append, length-spelt) (omega arith)
+    go true = simp (length-append, length_spelt)
+    go false = simp (length-append, length_spelt) (omega arith)
 
 -- ---- a read that is done has read a list of rules in a version, and answers their number
 pub record Accepted (edition : ℕ) (s : List ℕ) (m : ℕ) : Type 0 where
@@ -110,9 +110,9 @@ pub record Accepted (edition : ℕ) (s : List ℕ) (m : ℕ) : Type 0 where
   pub is : read_as product s ≡ got (deck_of version rules) ends
   pub many : m ≡ length rules
 
-pub done-has-read : (edition : ℕ) (s : List ℕ) (rules elements m : ℕ) → read_says (edition_of edition) rules elements s ≡ Done m → Accepted edition s m
+pub done_has_read : (edition : ℕ) (s : List ℕ) (rules elements m : ℕ) → read_says (edition_of edition) rules elements s ≡ Done m → Accepted edition s m
 unfolding in_tables pick
-done-has-read edition s rules elements m = by (edition_of edition) refl
+done_has_read edition s rules elements m = by (edition_of edition) refl
   where
     room : (x y : Bool) {c : ℕ} → pick x (pick y (Done c) (No Fault.Table 1)) (No Fault.Table 0) ≡ Done m → m ≡ c
     room true true d = cc
@@ -135,9 +135,9 @@ module _ (edition : ℕ) (p : Product) (ed : edition_of edition ≡ Edition.Of p
   base = base_of v (length rs)
 
   -- with room in both the read is done, and answers the number of rules
-  pub read-is-done : rule_width * length rs ≤ length rules → element_width * total elements_in rs ≤ length elements → read_says (edition_of edition) (length rules) (length elements) s ≡ Done (length rs)
+  pub read_is_done : rule_width * length rs ≤ length rules → element_width * total elements_in rs ≤ length elements → read_says (edition_of edition) (length rules) (length elements) s ≡ Done (length rs)
   unfolding in_tables pick
-  read-is-done h g = rw (ed, e, le-leb _ _ h, le-leb _ _ g)
+  read_is_done h g = rw (ed, e, le-leb _ _ h, le-leb _ _ g)
 
   -- it is done
   module _ (m : ℕ) (done : read_says (edition_of edition) (length rules) (length elements) s ≡ Done m) where
@@ -145,10 +145,10 @@ module _ (edition : ℕ) (p : Product) (ed : edition_of edition ≡ Edition.Of p
     now = let d = rw (ed, e) at done in rw (ed, e, d) (put_front rules (rule_rows p 0 base rs), put_front elements (all_element_rows p 0 base rs))
 
     -- every rule has its row
-    pub rule-has-row : (k : ℕ) {r : Rule} {later : List Rule} → drop k rs ≡ r ∷ later → RuleRow p v s rs k r (take rule_width (drop (rule_width * k) (rules_after (edition_of edition) s rules elements)))
-    rule-has-row k {r} is-r =
+    pub rule_has_row : (k : ℕ) {r : Rule} {later : List Rule} → drop k rs ≡ r ∷ later → RuleRow p v s rs k r (take rule_width (drop (rule_width * k) (rules_after (edition_of edition) s rules elements)))
+    rule_has_row k {r} is-r =
         let at = start_of v rs k in
-        let h = rule-stands p v s rs n bs e k is-r in
+        let h = rule_stands p v s rs n bs e k is-r in
         let y = rule_parts p k s at r h.0 h.1 in
         let q = row_at (rule p) (rule_row p) rule_width (λ i at x. refl) base k rs (drop (length (rule_rows p 0 base rs)) rules) is-r in
         record {
@@ -159,33 +159,33 @@ module _ (edition : ℕ) (p : Product) (ed : edition_of edition ≡ Edition.Of p
           is = rw (now.0, q.1, start_as);
           starts = refl;
           written = between (rule p k) s at h.1;
-          named = string-units s (at + 4) y.named.1;
+          named = string_units s (at + 4) y.named.1;
           stands = refl;
-          behind = omega (arith, string-long r.name);
-          state = four-between s (enabled_at at r) y.switched.1;
+          behind = omega (arith, string_long r.name);
+          state = four_between s (enabled_at at r) y.switched.1;
         }
 
     -- every element has its row, behind those of the rules before its own
-    pub element-has-row : (k : ℕ) {r : Rule} {later : List Rule} → drop k rs ≡ r ∷ later → (i : ℕ) {x : Element} {others : List Element} → drop i r.elements ≡ x ∷ others
+    pub element_has_row : (k : ℕ) {r : Rule} {later : List Rule} → drop k rs ≡ r ∷ later → (i : ℕ) {x : Element} {others : List Element} → drop i r.elements ≡ x ∷ others
         → ElementRow p v s rs k r i x (take element_width (drop (element_width * (total elements_in (take k rs) + i)) (elements_after (edition_of edition) s rules elements)))
-    element-has-row k {r} is-r i {x} is_x =
+    element_has_row k {r} is-r i {x} is_x =
         let at = data_at i (element_start p v rs k r i) in
         let form = data_by (row_in kinds x.0) in
-        let h = element-stands p v s rs n bs e k is-r i is_x in
-        let q = rows_at (rule p) (rule_element_rows p) element_width elements_in (λ j a y. element_rows-long p j (elements_at p j a y) y.elements) base k rs (drop (length (all_element_rows p 0 base rs)) elements) is-r in
+        let h = element_stands p v s rs n bs e k is-r i is_x in
+        let q = rows_at (rule p) (rule_element_rows p) element_width elements_in (λ j a y. element_rows_long p j (elements_at p j a y) y.elements) base k rs (drop (length (all_element_rows p 0 base rs)) elements) is-r in
         let o = row_at (placed p) (element_row p k) element_width (λ j a y. refl) (elements_at p k (start_of v rs k) r) i r.elements q.0 is_x in
         let z : element_width * (total elements_in (take k rs) + i) ≡ element_width * total elements_in (take k rs) + element_width * i = omega arith in
         record {
           start = at;
           end = at + length (form.write x.1);
-          is = rw (now.1, z, ← drop-drop, q.1, start_as, o.1, placed-long, ← add_assoc);
+          is = rw (now.1, z, ← drop-drop, q.1, start_as, o.1, placed_long, ← add_assoc);
           starts = refl;
           written = between form s at (placed_parts p i s (element_start p v rs k r i) x h.0 h.1).carries;
         }
 
     -- there are no other rows: "Later entries stay as they were"
-    pub no-other-rule : drop (rule_width * length rs) (rules_after (edition_of edition) s rules elements) ≡ drop (rule_width * length rs) rules
-    no-other-rule = let l = rule_rows-long p base rs in rw (now.0, ← l) (drop-append_seam (rule_rows p 0 base rs) _)
+    pub no_other_rule : drop (rule_width * length rs) (rules_after (edition_of edition) s rules elements) ≡ drop (rule_width * length rs) rules
+    no_other_rule = let l = rule_rows_long p base rs in rw (now.0, ← l) (drop-append_seam (rule_rows p 0 base rs) _)
 
-    pub no-other-element : drop (element_width * total elements_in rs) (elements_after (edition_of edition) s rules elements) ≡ drop (element_width * total elements_in rs) elements
-    no-other-element = let l = all_rows-long p base rs in rw (now.1, ← l) (drop-append_seam (all_element_rows p 0 base rs) _)
+    pub no_other_element : drop (element_width * total elements_in rs) (elements_after (edition_of edition) s rules elements) ≡ drop (element_width * total elements_in rs) elements
+    no_other_element = let l = all_rows_long p base rs in rw (now.1, ← l) (drop-append_seam (all_element_rows p 0 base rs) _)

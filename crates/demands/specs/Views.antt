@@ -21,7 +21,7 @@ use Rattle.view.specs.View.{shown, part_says, form_number}
 use Rattle.name_view.specs.Name.{name_view}
 use Rattle.word_view.specs.Word.{word_view}
 use Rattle.demands.specs.Places.{UnitsOf, element_start}
-use Rattle.demands.specs.Laws.Places.{stands_in, string-units, word-units, words_row, rule-stands, element-stands}
+use Rattle.demands.specs.Laws.Places.{stands_in, string_units, word_units, words_row, rule_stands, element_stands}
 
 -- the deck s was read as the rules rs in version v
 module _ (edition : ℕ) (p : Product) (ed : edition_of edition ≡ Edition.Of p) (v : ℕ) (s : List ℕ) (rs : List Rule) (n : ℕ) (bs : Bytes s) (e : read_as p s ≡ got (deck_of v rs) n) where
@@ -31,26 +31,26 @@ module _ (edition : ℕ) (p : Product) (ed : edition_of edition ≡ Edition.Of p
     unfolding asked
     asked_is refuse f = rw (ed, e, is-r)
 
-    pub name-is-shown : UnitsOf r.name.units (shown (name_view edition k s) s)
+    pub name_is_shown : UnitsOf r.name.units (shown (name_view edition k s) s)
     unfolding name_view
-    name-is-shown =
-        let h = rule-stands p v s rs n bs e k is-r in
-        rw asked_is (string-units s (start_of v rs k + 4) (rule_parts p k s (start_of v rs k) r h.0 h.1).named.1)
+    name_is_shown =
+        let h = rule_stands p v s rs n bs e k is-r in
+        rw asked_is (string_units s (start_of v rs k + 4) (rule_parts p k s (start_of v rs k) r h.0 h.1).named.1)
 
-    pub name-is-told : part_says (name_view edition k s) ≡ (Done 0, units_at (start_of v rs k) r ∷ 2 * length r.name.units ∷ form_number r.name.form ∷ [])
+    pub name_is_told : part_says (name_view edition k s) ≡ (Done 0, units_at (start_of v rs k) r ∷ 2 * length r.name.units ∷ form_number r.name.form ∷ [])
     unfolding name_view
-    name-is-told = rw asked_is
+    name_is_told = rw asked_is
 
     -- element i of it is a list of words, and t is word w of them
-    pub word-is-shown : (i w : ℕ) {id : ℕ} {ws more : List Text} {t : Text} {others : List Element} → drop i r.elements ≡ (id, words ws) ∷ others → drop w ws ≡ t ∷ more → UnitsOf t.units (shown (word_view edition k i w s) s)
+    pub word_is_shown : (i w : ℕ) {id : ℕ} {ws more : List Text} {t : Text} {others : List Element} → drop i r.elements ≡ (id, words ws) ∷ others → drop w ws ≡ t ∷ more → UnitsOf t.units (shown (word_view edition k i w s) s)
     unfolding word_view
-    word-is-shown i w {id} {ws} is-list is_IsWord =
-        let h = element-stands p v s rs n bs e k is-r i is-list in
+    word_is_shown i w {id} {ws} is-list is_IsWord =
+        let h = element_stands p v s rs n bs e k is-r i is-list in
         let at = data_at i (element_start p v rs k r i) in
         let row = words_row w s at (row_in kinds id) is_IsWord (placed_parts p i s (element_start p v rs k r i) (id, words ws) h.0 h.1).carries in
-        rw (asked_is, is-list, is_IsWord) (word-units s _ (stands_in (λ j. word) s (at + 4) w ws row is_IsWord).1)
+        rw (asked_is, is-list, is_IsWord) (word_units s _ (stands_in (λ j. word) s (at + 4) w ws row is_IsWord).1)
 
-    pub word-is-told : (i w : ℕ) {id : ℕ} {ws more : List Text} {t : Text} {others : List Element} → drop i r.elements ≡ (id, words ws) ∷ others → drop w ws ≡ t ∷ more
+    pub word_is_told : (i w : ℕ) {id : ℕ} {ws more : List Text} {t : Text} {others : List Element} → drop i r.elements ≡ (id, words ws) ∷ others → drop w ws ≡ t ∷ more
         → part_says (word_view edition k i w s) ≡ (Done 0, units_from (start_in (λ j. word) (data_at i (element_start p v rs k r i) + 4) ws w + 4) t ∷ 2 * length t.units ∷ form_number t.form ∷ [])
     unfolding word_view
-    word-is-told i w is-list is_IsWord = rw (asked_is, is-list, is_IsWord)
+    word_is_told i w is-list is_IsWord = rw (asked_is, is-list, is_IsWord)

@@ -1,4 +1,6 @@
 // How numbers are spelt in a listing: document 01, "One deck whole".
+#![tactic(auto)]
+
 ghost use Rattle.std.specs.Prelude.{◌≡◌, ◌++◌, ◌-◌, length, take};
 ghost use Rattle.digits.specs.Digits.{decimal, hex_digit, hex_digits};
 

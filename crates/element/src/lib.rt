@@ -1,4 +1,6 @@
 // The data of an element, by its kind.
+#![tactic(auto)]
+
 ghost use Rattle.std.specs.Prelude.{◌≡◌};
 ghost use Rattle.format.specs.Combinators.{each};
 ghost use Rattle.format.specs.Laws.Seen.{seen, none};

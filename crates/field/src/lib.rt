@@ -1,4 +1,6 @@
 // Readers of fields that have a range or a set value: counts, constants and flags at a place of a slice.
+#![tactic(auto)]
+
 ghost use Rattle.std.specs.Prelude.{◌≡◌};
 ghost use Rattle.format.specs.ReadWrite.{bit};
 ghost use Rattle.format.specs.Combinators.{count, fixed, flag};

@@ -1,4 +1,6 @@
 // The rows of the rules and elements of a deck that was accepted, put into two lent tables of 32-bit numbers.
+#![tactic(auto)]
+
 ghost use Rattle.std.specs.Prelude.{◌≡◌, ◌≤◌, ◌<◌, ◌+◌, ◌^◌, length};
 ghost use Rattle.rule.specs.Places.{data_at};
 ghost use Rattle.buffer.specs.Laid.{put};

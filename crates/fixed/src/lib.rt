@@ -1,4 +1,6 @@
 // The fixed fields of a rule of a deck.
+#![tactic(auto)]
+
 ghost use Rattle.std.specs.Prelude.{◌≡◌};
 ghost use Rattle.asked.specs.Laws.Asked.{Tells};
 ghost use Rattle.fixed.specs.Laws.Fixed.{Kept, no_fields};

@@ -1,4 +1,6 @@
 // Answers: a value or a fault, and their numbers.
+#![tactic(auto)]
+
 ghost use Rattle.std.specs.Prelude.{◌≡◌};
 ghost use Rattle.format.specs.Fault.{number_of};
 ghost use Rattle.format.specs.Laws.Fault.{row_number, end_says, no_read, in_given};

@@ -1,4 +1,6 @@
 // Bytes of a lent buffer moved within it, and a gap opened in a deck; nothing is done where they would leave it.
+#![tactic(auto)]
+
 ghost use Rattle.std.specs.Prelude.{◌≡◌, ◌+◌, ◌-◌, ◌≤◌, length};
 ghost use Rattle.buffer.specs.Laws.Laid.{down, up, pulled, moved, opened};
 

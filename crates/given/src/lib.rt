@@ -1,4 +1,6 @@
 // What an edit is given, judged: a name or a word, an element.
+#![tactic(auto)]
+
 ghost use Rattle.std.specs.Prelude.{◌≡◌};
 ghost use Rattle.format.specs.Laws.Seen.{told, none};
 ghost use Rattle.given.specs.Given.{is_text, given};

@@ -1,4 +1,6 @@
 // The head of a rule, put into a buffer.
+#![tactic(auto)]
+
 ghost use Rattle.std.specs.Prelude.{◌≡◌, ◌≤◌, length};
 ghost use Rattle.rule.specs.Laws.Parts.{head_bytes};
 ghost use Rattle.buffer.specs.Laid.{put_in};

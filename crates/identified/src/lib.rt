@@ -1,4 +1,6 @@
 // Elements: an identifier, and the data of its kind behind it.
+#![tactic(auto)]
+
 ghost use Rattle.std.specs.Prelude.{◌≡◌};
 ghost use Rattle.format.specs.Laws.Seen.{seen};
 ghost use Rattle.element.specs.Element.{element};

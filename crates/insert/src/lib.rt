@@ -1,4 +1,6 @@
 // A copy of a rule of a second deck, inserted at a place of a deck.
+#![tactic(auto)]
+
 ghost use Rattle.std.specs.Prelude.{◌≡◌, ◌+◌, ◌-◌, ◌≤◌, ◌<◌, length};
 ghost use Rattle.plan.specs.Edit.{insert, Edits};
 ghost use Rattle.plan.specs.Laws.Found.{Makes, Within};

@@ -1,4 +1,6 @@
 // Editions, and the kinds of elements.
+#![tactic(auto)]
+
 ghost use Rattle.std.specs.Prelude.{◌≡◌};
 ghost use Rattle.kind.specs.Kinds.{edition_of, kind_says};
 

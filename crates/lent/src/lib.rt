@@ -1,4 +1,6 @@
 // A row of numbers put into a lent table of 32-bit numbers: from its start, later entries as they were.
+#![tactic(auto)]
+
 ghost use Rattle.std.specs.Prelude.{length};
 ghost use Rattle.format.specs.declared.Outcome.TheVariants.{Done};
 ghost use Rattle.lent.specs.Lent.{Lends};

@@ -1,4 +1,6 @@
 // The fixed fields of a rule of a deck, in a lent table.
+#![tactic(auto)]
+
 ghost use Rattle.std.specs.Prelude.{◌≡◌};
 ghost use Rattle.format.specs.declared.Outcome.TheVariants.{Done};
 ghost use Rattle.format.specs.ReadWrite.{bit};

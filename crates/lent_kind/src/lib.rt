@@ -1,4 +1,6 @@
 // The kind and the role of an identifier, in a lent table.
+#![tactic(auto)]
+
 ghost use Rattle.std.specs.Prelude.{◌≡◌};
 ghost use Rattle.format.specs.declared.Outcome.TheVariants.{Done};
 ghost use Rattle.kind.specs.Kinds.{role_number, kind_values, kind_of};

@@ -1,4 +1,6 @@
 // What a date says, in a lent table.
+#![tactic(auto)]
+
 ghost use Rattle.lent_moment.specs.Moment.{LendsMoment};
 
 use format::Outcome;

@@ -1,4 +1,6 @@
 // The name of a rule of a deck, or a word, as a part of the deck, in a lent table.
+#![tactic(auto)]
+
 ghost use Rattle.std.specs.Prelude.{◌≡◌};
 ghost use Rattle.view.specs.View.{form_number, part_says};
 ghost use Rattle.name_view.specs.Name.{name_view};

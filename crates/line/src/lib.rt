@@ -1,4 +1,6 @@
 // The lines that the lister prints, put at the start of a buffer: document 01, "One deck whole".
+#![tactic(auto)]
+
 ghost use Rattle.std.specs.Prelude.{◌≡◌, ◌+◌, ◌≤◌, length};
 ghost use Rattle.digits.specs.Digits.{decimal, hex_digits};
 ghost use Rattle.line.specs.Line.{spaced, state, deck_line, rule_line, element_line, end_line, refused_line, Lined};

@@ -1,4 +1,6 @@
 // The word list that is the last element of a rule.
+#![tactic(auto)]
+
 ghost use Rattle.format.specs.Laws.Back.{Where};
 ghost use Rattle.element.specs.Data.{word_data, data_of};
 ghost use Rattle.rule.specs.Rule.{rule};

@@ -1,4 +1,6 @@
 // The line of a deck, from its bytes, and of a rule and an element, from its row of the tables too: document 01, "One deck whole".
+#![tactic(auto)]
+
 ghost use Rattle.std.specs.Prelude.{◌≡◌, ◌-◌, ◌/◌, drop};
 ghost use Rattle.format.specs.Combinators.{number};
 ghost use Rattle.line.specs.Line.{Lined};

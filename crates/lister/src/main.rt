@@ -1,4 +1,6 @@
 // Lists the deck on standard input, read as Studio: document 01, "One deck whole".
+#![tactic(auto)]
+
 ghost use Rattle.std.specs.Prelude.{◌≤◌, ◌<◌, ◌^◌, length};
 
 use fill::{ELEMENT_WIDTH, RULE_WIDTH};

@@ -1,4 +1,6 @@
 // Where a rule of a deck stands: the deck is judged by one pass, then its start is found.
+#![tactic(auto)]
+
 ghost use Rattle.std.specs.Prelude.{◌≡◌};
 ghost use Rattle.deck.specs.Deck.{read_deck};
 ghost use Rattle.locate.specs.Laws.Located.{located, last_of};

@@ -12,7 +12,7 @@ use lib.Pow.{pow_pos, pow-add, pow_mono, pow-lt}
 use borrow.Author.Tests.{le-leb, lt-leb}
 use Rattle.format.specs.Format.{pick}
 use Rattle.date.specs.Double.{negative, exponent, digits, scaled, size, day, bound, accepted}
-use Rattle.moment.specs.Laws.Moment.{origin-is}
+use Rattle.moment.specs.Laws.Moment.{origin_is}
 use Rattle.moment.specs.Moment.{origin, whole_days, day_in, second_in}
 
 -- ---- a day is 2 ^ k times the weight of a digit
@@ -24,9 +24,9 @@ day_split : (k x : ℕ) → k + x ≡ 1074 → day ≡ 2 ^ k * 2 ^ x
 unfolding day
 day_split k x h = ap (λ (z : ℕ). 2 ^ z) (sym h) ∙ pow-add 2 k x
 
-pow_in-day : (k : ℕ) → k ≤ 1074 → 2 ^ k ≤ day
+pow_in_day : (k : ℕ) → k ≤ 1074 → 2 ^ k ≤ day
 unfolding day
-pow_in-day k h = pow_mono h
+pow_in_day k h = pow_mono h
 
 leading : (e t : ℕ) → 0 < e → scaled e t ≡ (2 ^ 52 + t) * 2 ^ (e - 1)
 leading zero t h = absurd (lt_irrefl 0 h)
@@ -40,11 +40,11 @@ scaled_lt (suc x) t h =
     lt_of_lt_of_le (mul-lt-mul_of_pos_right l (pow_pos x)) (le_of_eq (sym (ap (λ (z : ℕ). 2 ^ z) e ∙ pow-add 2 53 x)))
 
 -- ---- whole days
-pub whole-none : (e t : ℕ) → t < 2 ^ 52 → e < 1023 → 0 ≡ scaled e t / day
-whole-none e t h k = sym (div-eq_of_lt (lt_of_lt_of_le (scaled_lt e t h) (pow_in-day (52 + e) (omega arith))))
+pub whole_none : (e t : ℕ) → t < 2 ^ 52 → e < 1023 → 0 ≡ scaled e t / day
+whole_none e t h k = sym (div-eq_of_lt (lt_of_lt_of_le (scaled_lt e t h) (pow_in_day (52 + e) (omega arith))))
 
-pub whole-shift : (e t : ℕ) → 1 ≤ e → e ≤ 1075 → (2 ^ 52 + t) / 2 ^ (1075 - e) ≡ scaled e t / day
-whole-shift e t h k =
+pub whole_shift : (e t : ℕ) → 1 ≤ e → e ≤ 1075 → (2 ^ 52 + t) / 2 ^ (1075 - e) ≡ scaled e t / day
+whole_shift e t h k =
     sym (ap (λ (z : ℕ). z / day) (leading e t h)
     ∙ ap (λ (z : ℕ). (2 ^ 52 + t) * 2 ^ (e - 1) / z) (day_split (1075 - e) (e - 1) (omega arith))
     ∙ mul-div-mul_right (2 ^ 52 + t) (2 ^ (1075 - e)) (pow_pos (e - 1)))
@@ -69,8 +69,8 @@ second_at f j x h =
     step : (p q : ℕ) → q ≡ 128 * p → f * p * 86400 ≡ f * 675 * q
     step p q e = sym (ap (λ (z : ℕ). f * 675 * z) e ∙ mul_assoc f 675 (128 * p) ∙ ap (λ (z : ℕ). f * z) (sym (mul_assoc 675 128 p) ∙ mul_comm 86400 p) ∙ sym (mul_assoc f p 86400))
 
-pub second-shift : (e t : ℕ) → 1 ≤ e → e ≤ 1068 → (2 ^ 52 + t) % 2 ^ (1075 - e) * 675 / 2 ^ (1068 - e) ≡ scaled e t % day * 86400 / day
-second-shift e t h k =
+pub second_shift : (e t : ℕ) → 1 ≤ e → e ≤ 1068 → (2 ^ 52 + t) % 2 ^ (1075 - e) * 675 / 2 ^ (1068 - e) ≡ scaled e t % day * 86400 / day
+second_shift e t h k =
     let q = 2 ^ 52 + t in
     sym (ap (λ (z : ℕ). z % day * 86400 / day) (leading e t h)
     ∙ ap (λ (z : ℕ). z * 86400 / day) (rest_at q (1075 - e) (e - 1) (omega arith))
@@ -82,7 +82,7 @@ second_none e t h k =
     sym (div-eq_of_lt
     (lt_of_lt_of_le (mul-lt-mul_of_pos_right (lt_of_le_of_lt (mod-le (scaled e t) day) (scaled_lt e t h)) (lit< tt))
     (le_trans (mul-le-mul_left (2 ^ (52 + e)) (lit≤ {m = 86400} {n = 2 ^ 17} tt))
-    (le_trans (le_of_eq (sym (pow-add 2 (52 + e) 17))) (pow_in-day (52 + e + 17) (omega arith))))))
+    (le_trans (le_of_eq (sym (pow-add 2 (52 + e) 17))) (pow_in_day (52 + e + 17) (omega arith))))))
 
 -- the digits of the fraction: all of them below one day, else those that the code's 2 ^ k cuts off
 pub all_fraction : (q e p x : ℕ) → q ≡ p → e ≡ x → q < 2 ^ 53 → e < 1023 → q ≡ p % 2 ^ (1075 - x)
@@ -108,8 +108,8 @@ bound_le : (s : Bool) → bound s ≤ 2958466
 bound_le true = lit≤ tt
 bound_le false = lit≤ tt
 
-pub whole-small : (bits : ℕ) → accepted bits ≡ true → whole_days bits < 2958466
-whole-small bits a = lt_of_lt_of_le (whole_lt bits a) (bound_le (negative bits))
+pub whole_small : (bits : ℕ) → accepted bits ≡ true → whole_days bits < 2958466
+whole_small bits a = lt_of_lt_of_le (whole_lt bits a) (bound_le (negative bits))
 
 big : (e t : ℕ) → 1045 ≤ e → 2 ^ 22 * day ≤ scaled e t
 unfolding day
@@ -118,35 +118,35 @@ big e t h =
     (le_trans (le_of_eq (pow-add 2 52 (e - 1)))
     (le_trans (mul-le-mul_right (2 ^ (e - 1)) (omega arith)) (le_of_eq (sym (leading e t (omega arith))))))
 
-pub exponent-most : (bits : ℕ) → accepted bits ≡ true → exponent bits < 1045
-exponent-most bits a =
+pub exponent_most : (bits : ℕ) → accepted bits ≡ true → exponent bits < 1045
+exponent_most bits a =
     lt_of_not-le (λ h. not-le_of_lt (below bits a) (le_trans (mul-le-mul_right day (le_trans (bound_le (negative bits)) (lit≤ tt))) (big (exponent bits) (digits bits) h)))
 
 -- ---- the day
 pub whole_before : (bits : ℕ) → accepted bits ≡ true → 2 ^ 63 ≤ bits → whole_days bits < 657435
 whole_before bits a h = subst (λ (s : Bool). whole_days bits < bound s) (le-leb (2 ^ 63) bits h) (whole_lt bits a)
 
-pub day-before : (bits w : ℕ) → w ≡ whole_days bits → 2 ^ 63 ≤ bits → 657434 - w ≡ day_in bits
+pub day_before : (bits w : ℕ) → w ≡ whole_days bits → 2 ^ 63 ≤ bits → 657434 - w ≡ day_in bits
 unfolding day_in pick
-day-before bits w e h = rw (le-leb (2 ^ 63) bits h, origin-is, e)
+day_before bits w e h = rw (le-leb (2 ^ 63) bits h, origin_is, e)
 
 pub day_after : (bits w : ℕ) → w ≡ whole_days bits → bits < 2 ^ 63 → 657434 + w ≡ day_in bits
 unfolding day_in pick
-day_after bits w e h = rw (lt-leb (2 ^ 63) bits h, origin-is, e)
+day_after bits w e h = rw (lt-leb (2 ^ 63) bits h, origin_is, e)
 
 -- ---- what a date says is small
 
-pub second-small : (bits : ℕ) → second_in bits < 86400
+pub second_small : (bits : ℕ) → second_in bits < 86400
 unfolding second_in
-second-small bits = (div-lt_iff_lt-mul day_pos).1 (rw (mul_comm 86400 day) (mul-lt-mul_of_pos_right (mod-lt (size bits) day_pos) (omega arith)))
+second_small bits = (div-lt_iff_lt-mul day_pos).1 (rw (mul_comm 86400 day) (mul-lt-mul_of_pos_right (mod-lt (size bits) day_pos) (omega arith)))
 
-pub day-small : (bits : ℕ) → accepted bits ≡ true → day_in bits < 3615900
+pub day_small : (bits : ℕ) → accepted bits ≡ true → day_in bits < 3615900
 unfolding day_in pick
-day-small bits a = go (negative bits)
+day_small bits a = go (negative bits)
   where
     w : whole_days bits < 2958466
-    w = whole-small bits a
+    w = whole_small bits a
 
     go : (b : Bool) → pick b (origin - whole_days bits) (origin + whole_days bits) < 3615900
-    go true = omega (arith, origin-is, w)
-    go false = omega (arith, origin-is, w)
+    go true = omega (arith, origin_is, w)
+    go false = omega (arith, origin_is, w)

@@ -1,4 +1,6 @@
 // What a date says: the day by the calendar, and the second of the day.
+#![tactic(auto)]
+
 ghost use Rattle.std.specs.Prelude.{true, ◌≡◌, ◌+◌, ◌-◌, ◌%◌, ◌^◌, ◌<◌};
 ghost use Rattle.date.specs.Double.{exponent, digits, accepted};
 ghost use Rattle.moment.specs.Moment.{whole_days, day_in, second_in, Says};

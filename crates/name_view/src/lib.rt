@@ -1,4 +1,6 @@
 // The name of a rule as a part of the deck's bytes.
+#![tactic(auto)]
+
 ghost use Rattle.std.specs.Prelude.{◌≡◌, length};
 ghost use Rattle.asked.specs.Laws.Asked.{Tells};
 ghost use Rattle.view.specs.Laws.View.{Inside};

@@ -1,4 +1,6 @@
 // The offsets of the rules of a deck of version 2, put into a buffer.
+#![tactic(auto)]
+
 ghost use Rattle.offsets.specs.Laws.Offsets.{Offsets};
 
 use format::Read;

@@ -1,4 +1,6 @@
 // An outcome as the one number that goes back over the products' door.
+#![tactic(auto)]
+
 ghost use Rattle.std.specs.Prelude.{◌≡◌, ◌%◌, ◌^◌};
 ghost use Rattle.format.specs.Fault.{packed};
 

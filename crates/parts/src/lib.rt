@@ -1,4 +1,6 @@
 // A String put into a buffer; a number with bytes behind it.
+#![tactic(auto)]
+
 ghost use Rattle.std.specs.Prelude.{◌≡◌, ◌++◌};
 ghost use Rattle.format.specs.ReadWrite.{spelt};
 ghost use Rattle.buffer.specs.Laid.{put_in};

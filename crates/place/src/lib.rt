@@ -1,4 +1,6 @@
 // A gap for a rule, opened at a place of a deck.
+#![tactic(auto)]
+
 ghost use Rattle.std.specs.Prelude.{◌≡◌, ◌≤◌, ◌<◌};
 ghost use Rattle.place.specs.Laws.Place.{lost, Opens};
 

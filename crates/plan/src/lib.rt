@@ -1,4 +1,6 @@
 // What every edit begins with, its deck found in its buffer; and what it ends with where rules start elsewhere.
+#![tactic(auto)]
+
 ghost use Rattle.std.specs.Prelude.{◌≡◌};
 ghost use Rattle.locate.specs.Laws.Located.{last_of};
 ghost use Rattle.plan.specs.Laws.Found.{found};

@@ -1,4 +1,6 @@
 // A lent table of five numbers as the value that it says, and its data in a buffer: the way back of value_table.
+#![tactic(auto)]
+
 ghost use Rattle.std.specs.Prelude.{◌≡◌, length};
 ghost use Rattle.value.specs.declared.Value.TheVariants.{Dates};
 ghost use Rattle.put.specs.Plan.{putting, put_says, put_leaves};

@@ -1,4 +1,6 @@
 // A rule removed; the one that becomes the first gets the long head.
+#![tactic(auto)]
+
 ghost use Rattle.std.specs.Prelude.{◌≡◌, true, false, ℕ, ◌+◌, ◌-◌, ◌^◌, ◌≤◌, ◌<◌};
 ghost use Rattle.steps.specs.Laws.Steps.{name_end};
 ghost use Rattle.plan.specs.Edit.{remove, Edits};

@@ -1,4 +1,6 @@
 // A rule renamed where it stands.
+#![tactic(auto)]
+
 ghost use Rattle.std.specs.Prelude.{◌≡◌, ℕ, ◌<◌};
 ghost use Rattle.steps.specs.Laws.Steps.{name_end};
 ghost use Rattle.plan.specs.Edit.{rename, Edits};

@@ -1,4 +1,6 @@
 // How long a deck may be: 18, 19, 20.
+#![tactic(auto)]
+
 ghost use Rattle.std.specs.Prelude.{◌≡◌};
 ghost use Rattle.room.specs.Room.{room_for};
 

@@ -1,4 +1,6 @@
 // The row of an identifier among the kinds, in a product or in an edition.
+#![tactic(auto)]
+
 ghost use Rattle.std.specs.Prelude.{◌≡◌};
 ghost use Rattle.kind.specs.Kinds.{row_in, kinds, row_of, kind_says, kind_of};
 ghost use Rattle.row.specs.Laws.Lines.{row_at, digit_of, line_of, lacks_at};

@@ -1,4 +1,6 @@
 // A rule's head, and an element at its place among those of its rule.
+#![tactic(auto)]
+
 ghost use Rattle.std.specs.Prelude.{◌≡◌};
 ghost use Rattle.element.specs.Laws.Element.{named};
 ghost use Rattle.format.specs.Laws.Seen.{seen, none};

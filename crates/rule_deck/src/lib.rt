@@ -1,4 +1,6 @@
 // What the C products call: numbers and byte slices in, one number out, code plus 256 times place.
+#![tactic(auto)]
+
 ghost use Rattle.std.specs.Prelude.{◌≡◌, length};
 ghost use Rattle.format.specs.Fault.{packed};
 ghost use Rattle.version.specs.Version.{version};

@@ -1,1 +1,2 @@
 // Runs of edits: see specs/. There is no code here.
+#![tactic(auto)]

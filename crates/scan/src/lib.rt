@@ -1,4 +1,6 @@
 // What a pass over a deck tells, as an outcome; and a refusal as that of a pass.
+#![tactic(auto)]
+
 ghost use Rattle.std.specs.Prelude.{◌≡◌};
 ghost use Rattle.scan.specs.Scan.{scan_says};
 ghost use Rattle.scan.specs.Laws.Scan.{no_scan};

@@ -1,4 +1,6 @@
 // Bytes zeroed, and shifted down or up.
+#![tactic(auto)]
+
 ghost use Rattle.std.specs.Prelude.{◌≡◌, ◌+◌, ◌-◌, length};
 ghost use Rattle.buffer.specs.Laid.{zeros};
 ghost use Rattle.buffer.specs.Laws.Laid.{down, up};

@@ -1,4 +1,6 @@
 // Where a rule stands, as an outcome; and a refusal as that of a place.
+#![tactic(auto)]
+
 ghost use Rattle.std.specs.Prelude.{◌≡◌};
 ghost use Rattle.spot.specs.Laws.Spot.{spot_says, no_spot};
 

@@ -1,4 +1,6 @@
 // Starting an empty deck, which begins a run of edits.
+#![tactic(auto)]
+
 ghost use Rattle.std.specs.Prelude.{◌≡◌, length};
 ghost use Rattle.start.specs.Start.{start_says, start_leaves};
 

@@ -1,4 +1,6 @@
 // From rule to rule of a sound deck: a rule is stepped over by its Data Size; in version 2 its offset says where it starts.
+#![tactic(auto)]
+
 ghost use Rattle.std.specs.Prelude.{◌≡◌};
 ghost use Rattle.steps.specs.Laws.Steps.{name_read, Follows, Reached};
 ghost use Rattle.steps.specs.Laws.Starts.{Starts};

@@ -1,4 +1,6 @@
 // A rule switched on or off where it stands.
+#![tactic(auto)]
+
 ghost use Rattle.std.specs.Prelude.{ℕ};
 ghost use Rattle.plan.specs.Edit.{switch, Edits};
 ghost use Rattle.plan.specs.Laws.Found.{Makes};

@@ -1,4 +1,6 @@
 // Reading a deck into two lent tables of 32-bit numbers: a pass that judges it, then one that fills them.
+#![tactic(auto)]
+
 ghost use Rattle.std.specs.Prelude.{◌≡◌, length};
 ghost use Rattle.kind.specs.Kinds.{edition_of};
 ghost use Rattle.tables.specs.Tables.{in_tables, read_says, rules_after, elements_after};

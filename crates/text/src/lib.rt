@@ -1,4 +1,6 @@
 // Strings and words.
+#![tactic(auto)]
+
 ghost use Rattle.std.specs.Prelude.{◌≡◌};
 ghost use Rattle.format.specs.Laws.Seen.{seen, itself, none};
 ghost use Rattle.text.specs.Length.{long_length};

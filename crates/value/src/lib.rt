@@ -1,4 +1,6 @@
 // The value of an element's data.
+#![tactic(auto)]
+
 ghost use Rattle.std.specs.Prelude.{◌≡◌, length};
 ghost use Rattle.element.specs.Data.{word_data, size_data, date_data, data_of, words_of, sizes_of, span_of};
 ghost use Rattle.value.specs.declared.Value.TheVariants.{Size, Dates, Words};

@@ -1,4 +1,6 @@
 // A value as a lent table of five numbers.
+#![tactic(auto)]
+
 ghost use Rattle.std.specs.Prelude.{◌≡◌, ◌≤◌, length};
 ghost use Rattle.format.specs.declared.Outcome.TheVariants.{Done};
 ghost use Rattle.format.specs.ReadWrite.{bit};

@@ -4,5 +4,5 @@ use native.Mathlib.Omega.{arith}
 use mathlib.Core.List.{List}
 use lib.ListN.{length, take, length-take}
 
-pub taken-most : {A : Type 0} (k m : ℕ) (xs : List A) → k ≤ m → length (take k xs) ≤ m
-taken-most k m xs h = omega (arith, length-take k xs)
+pub taken_most : {A : Type 0} (k m : ℕ) (xs : List A) → k ≤ m → length (take k xs) ≤ m
+taken_most k m xs h = omega (arith, length-take k xs)

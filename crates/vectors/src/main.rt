@@ -1,4 +1,6 @@
 // Runs the vectors on standard input over the library and says which do not agree: vectors/README.md has their form.
+#![tactic(auto)]
+
 ghost use Rattle.std.specs.Prelude.{◌≡◌, ◌≤◌, ◌<◌, ◌^◌, length};
 
 use format::{Outcome, Read};

@@ -1,4 +1,6 @@
 // Views: a part of a slice, by its first byte and its length, and the form of the String whose units it is.
+#![tactic(auto)]
+
 ghost use Rattle.std.specs.Prelude.{◌≡◌, [], length};
 ghost use Rattle.view.specs.Laws.View.{units_of, within, no_view};
 ghost use Rattle.view.specs.View.{PartOf, view_says};

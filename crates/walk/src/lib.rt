@@ -1,4 +1,6 @@
 // The elements of a rule of a sound deck: how many they are, where each starts, and its identifier.
+#![tactic(auto)]
+
 ghost use Rattle.format.specs.Laws.Skip.{Skipped};
 ghost use Rattle.rule.specs.Rule.{placed};
 ghost use Rattle.walk.specs.Laws.Elements.{Counts, Elements, Identifies};

@@ -1,4 +1,6 @@
 // A rule at a place, whole: its fields, Data Size, elements.
+#![tactic(auto)]
+
 ghost use Rattle.std.specs.Prelude.{◌≡◌, length};
 ghost use Rattle.format.specs.Combinators.{each, sized};
 ghost use Rattle.format.specs.Laws.Seen.{seen, none};

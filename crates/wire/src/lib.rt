@@ -1,4 +1,6 @@
 // Readers of numbers at a place of a slice, and of a constant that is longer than a number.
+#![tactic(auto)]
+
 ghost use Rattle.std.specs.Prelude.{◌≡◌, ◌+◌, ◌-◌, ◌*◌, ◌<◌, ◌≤◌, ◌^◌, length, take, drop};
 ghost use Rattle.format.specs.ReadWrite.{value};
 ghost use Rattle.format.specs.Combinators.{number, each, fixed};

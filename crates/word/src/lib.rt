@@ -1,4 +1,6 @@
 // An edit at the end of a deck: a word is added to the list that is the last element of the last rule.
+#![tactic(auto)]
+
 ghost use Rattle.std.specs.Prelude.{◌≤◌, ◌<◌, ◌≡◌, true, length};
 ghost use Rattle.locate.specs.Laws.Located.{last_of};
 ghost use Rattle.given.specs.Given.{is_text};

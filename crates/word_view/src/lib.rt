@@ -1,4 +1,6 @@
 // A word of an element as a part of the deck's bytes.
+#![tactic(auto)]
+
 ghost use Rattle.std.specs.Prelude.{◌≡◌, length};
 ghost use Rattle.format.specs.Laws.Back.{Where};
 ghost use Rattle.rule.specs.Rule.{rule};

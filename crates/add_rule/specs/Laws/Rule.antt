@@ -17,8 +17,8 @@ use Rattle.format.specs.declared.Read.TheVariants as Read
 use Rattle.format.specs.Laws.Fault.{end_says, in_given}
 use Rattle.format.specs.Format.{refused, Bytes}
 use Rattle.format.specs.ReadWrite.{spelt, bit, each_write}
-use Rattle.format.specs.Laws.ReadWrite.{length-spelt, length_before}
-use Rattle.format.specs.Laws.Seen.{told, none, told-got, told-no}
+use Rattle.format.specs.Laws.ReadWrite.{length_spelt, length_before}
+use Rattle.format.specs.Laws.Seen.{told, none, told_got, told_no}
 use Rattle.text.specs.Text.{string}
 use Rattle.kind.specs.declared.Product.{Product}
 use Rattle.kind.specs.declared.Product.TheVariants.{Studio}
@@ -28,26 +28,26 @@ use Rattle.rule.specs.Rule.{Rule, placed}
 use Rattle.rule.specs.Laws.Parts.{kept, front, back, head_bytes, inner, size_of}
 use Rattle.deck.specs.Deck.{wide}
 use Rattle.deck.specs.Written.{deck_of, written}
-use Rattle.deck.specs.Laws.Written.{lead, before, before-is, written_is, written-one_more, rules, rules_cons}
+use Rattle.deck.specs.Laws.Written.{lead, before, before_is, written_is, written_one_more, rules, rules_cons}
 use Rattle.buffer.specs.Laid.{put_in}
 use Rattle.buffer.specs.Laws.Laid.{put_both}
-use Rattle.buffer.specs.Laws.Holds.{Holds, holds-behind}
+use Rattle.buffer.specs.Laws.Holds.{Holds, holds_behind}
 use Rattle.locate.specs.Laws.Located.{last_of}
 use Rattle.spot.specs.declared.Site.{Site}
 use Rattle.given.specs.Given.{is_text, text_of, given}
-use Rattle.given.specs.Laws.Element.{first-written}
+use Rattle.given.specs.Laws.Element.{first_written}
 use Rattle.plan.specs.Edit.{become, add_rule, edited, new_rule}
 use Rattle.plan.specs.Laws.Found.{MakesAs, Does, Sits}
 use Rattle.plan.specs.Handed.{HandedFields}
-use Rattle.plan.specs.Laws.Fits.{Every, every_append, Fits, fits-deck}
-use Rattle.plan.specs.Laws.Given.{text-fits, given-fits}
-use Rattle.plan.specs.Laws.Kept.{new-fits}
-use Rattle.plan.specs.Laws.Finish.{Finishes, made-finish}
-use Rattle.plan.specs.Laws.Last.{rules-none}
+use Rattle.plan.specs.Laws.Fits.{Every, every_append, Fits, fits_deck}
+use Rattle.plan.specs.Laws.Given.{text_fits, given_fits}
+use Rattle.plan.specs.Laws.Kept.{new_fits}
+use Rattle.plan.specs.Laws.Finish.{Finishes, made_finish}
+use Rattle.plan.specs.Laws.Last.{rules_none}
 use Rattle.room.specs.Room.{room_for}
 use Rattle.room.specs.Laws.Room.{roomy}
-use Rattle.plan.specs.Laws.Makes.{if-text, no_text, at-given, no-given, made-no, made-given, made_out}
-use Rattle.parts.specs.Laws.Text.{text_bytes, text_size, text-size, text-is}
+use Rattle.plan.specs.Laws.Makes.{if_text_lem, no_text, at_given_lem, no_given, made_no, made_given, made_out}
+use Rattle.parts.specs.Laws.Text.{text_bytes, text_size, text_size_lem, text_is}
 
 -- ---- the bytes of a new rule
 
@@ -63,23 +63,23 @@ front_bytes name f = spelt 4 f.signature ++ (text_bytes name ++ kept_bytes f)
 unfoldable pub back_bytes : ℕ → ℕ → List ℕ → List ℕ
 back_bytes i id s = spelt 4 (6 + length (head_bytes i) + length s) ++ (spelt 2 1 ++ (head_bytes i ++ (spelt 4 id ++ s)))
 
-kept-size : (f : Fields) → length (kept_bytes f) ≡ 20
+kept_size : (f : Fields) → length (kept_bytes f) ≡ 20
 unfolding kept_bytes
-kept-size f = simp (length-append, length-spelt)
+kept_size f = simp (length-append, length_spelt)
 
-front-size : (name : List ℕ) (f : Fields) → length (front_bytes name f) ≡ 24 + length (text_bytes name)
+front_size : (name : List ℕ) (f : Fields) → length (front_bytes name f) ≡ 24 + length (text_bytes name)
 unfolding front_bytes
-front-size name f = omega (arith, length_before 4 f.signature (text_bytes name ++ kept_bytes f), length-append (text_bytes name) (kept_bytes f), kept-size f)
+front_size name f = omega (arith, length_before 4 f.signature (text_bytes name ++ kept_bytes f), length-append (text_bytes name) (kept_bytes f), kept_size f)
 
-back-size : (i id : ℕ) (s : List ℕ) → length (back_bytes i id s) ≡ 10 + length (head_bytes i) + length s
+back_size : (i id : ℕ) (s : List ℕ) → length (back_bytes i id s) ≡ 10 + length (head_bytes i) + length s
 unfolding back_bytes
-back-size i id s =
+back_size i id s =
     omega (arith, length_before 4 (6 + length (head_bytes i) + length s) (spelt 2 1 ++ (head_bytes i ++ (spelt 4 id ++ s))), length_before 2 1 (head_bytes i ++ (spelt 4 id ++ s)), length-append (head_bytes i) (spelt 4 id ++ s), length_before 4 id s)
 
 -- they are the parts of the rule as it is written
-front-is : (name : List ℕ) (f : Fields) (x : Element) → text_bytes name ≡ string.write (text_of name) → front (new_rule (text_of name) f x) ≡ front_bytes name f
+front_is : (name : List ℕ) (f : Fields) (x : Element) → text_bytes name ≡ string.write (text_of name) → front (new_rule (text_of name) f x) ≡ front_bytes name f
 unfolding front kept front_bytes kept_bytes
-front-is name f x e = rw (← e)
+front_is name f x e = rw (← e)
 
 back_is : (i id : ℕ) (s : List ℕ) (x : Element) → (placed Studio 0).write x ≡ spelt 4 id ++ s → back i (x ∷ []) ≡ back_bytes i id s
 unfolding back size_of inner each_write back_bytes
@@ -99,11 +99,11 @@ module _ (d : List ℕ) (at : ℕ) where
       let c = spelt 4 f.unknown3 in
       let g = spelt 4 f.unknown4 in
       let i = spelt 4 f.unknown5 in
-      let la = length-spelt 4 (bit f.on) in
-      let lb = length-spelt 4 f.unknown2 in
-      let lc = length-spelt 4 f.unknown3 in
-      let lg = length-spelt 4 f.unknown4 in
-      let li = length-spelt 4 f.unknown5 in
+      let la = length_spelt 4 (bit f.on) in
+      let lb = length_spelt 4 f.unknown2 in
+      let lc = length_spelt 4 f.unknown3 in
+      let lg = length_spelt 4 f.unknown4 in
+      let li = length_spelt 4 f.unknown5 in
       let l₂ = length-append a b in
       let l₃ = length-append (a ++ b) c in
       let l₄ = length-append ((a ++ b) ++ c) g in
@@ -112,30 +112,30 @@ module _ (d : List ℕ) (at : ℕ) where
       let w₄ = put_both d at ((a ++ b) ++ c) g w₃ e₄ (omega arith) (omega arith) in
       put_both d at (((a ++ b) ++ c) ++ g) i w₄ e₅ (omega arith) (omega arith) ∙ ap (put_in d at) (simp append_assoc)
 
-  pub front-put : (name : List ℕ) (f : Fields) {size : ℕ} {y₁ y₂ y₃ : List ℕ} → y₁ ≡ put_in d at (spelt 4 f.signature) → y₂ ≡ put_in y₁ (at + 4) (text_bytes name) → size ≡ text_size name → y₃ ≡ put_in y₂ (at + 4 + size) (kept_bytes f)
+  pub front_put : (name : List ℕ) (f : Fields) {size : ℕ} {y₁ y₂ y₃ : List ℕ} → y₁ ≡ put_in d at (spelt 4 f.signature) → y₂ ≡ put_in y₁ (at + 4) (text_bytes name) → size ≡ text_size name → y₃ ≡ put_in y₂ (at + 4 + size) (kept_bytes f)
       → is_text name ≡ true → at + 24 + length (text_bytes name) ≤ length d → y₃ ≡ put_in d at (front_bytes name f)
   unfolding front_bytes
-  front-put name f e₁ e₂ z e₃ t h =
+  front_put name f e₁ e₂ z e₃ t h =
       let a = spelt 4 f.signature in
-      let la = length-spelt 4 f.signature in
-      let lb = text-size name t in
-      let lc = kept-size f in
+      let la = length_spelt 4 f.signature in
+      let lb = text_size_lem name t in
+      let lc = kept_size f in
       let l₂ = length-append a (text_bytes name) in
       let w₂ = put_both d at a (text_bytes name) e₁ e₂ (omega arith) (omega arith) in
       put_both d at (a ++ text_bytes name) (kept_bytes f) w₂ e₃ (omega arith) (omega arith) ∙ ap (put_in d at) (append_assoc a (text_bytes name) (kept_bytes f))
 
-  pub back-put : (i id : ℕ) (s : List ℕ) {head : ℕ} {y₁ y₂ y₃ y₄ : List ℕ} → head ≡ length (head_bytes i) → y₁ ≡ put_in d at (spelt 4 (6 + head + length s)) → y₂ ≡ put_in y₁ (at + 4) (spelt 2 1) → y₃ ≡ put_in y₂ (at + 6) (head_bytes i) → y₄ ≡ put_in y₃ (at + 6 + head) (spelt 4 id ++ s)
+  pub back_put : (i id : ℕ) (s : List ℕ) {head : ℕ} {y₁ y₂ y₃ y₄ : List ℕ} → head ≡ length (head_bytes i) → y₁ ≡ put_in d at (spelt 4 (6 + head + length s)) → y₂ ≡ put_in y₁ (at + 4) (spelt 2 1) → y₃ ≡ put_in y₂ (at + 6) (head_bytes i) → y₄ ≡ put_in y₃ (at + 6 + head) (spelt 4 id ++ s)
       → at + 10 + length (head_bytes i) + length s ≤ length d → y₄ ≡ put_in d at (back_bytes i id s)
   unfolding back_bytes
-  back-put i id s {head} z e₁ e₂ e₃ e₄ h =
+  back_put i id s {head} z e₁ e₂ e₃ e₄ h =
       let N = 6 + length (head_bytes i) + length s in
       let a = spelt 4 N in
       let b = spelt 2 1 in
       let c = head_bytes i in
       let g = spelt 4 id ++ s in
-      let la = length-spelt 4 N in
-      let lb = length-spelt 2 1 in
-      let li = length-spelt 4 id in
+      let la = length_spelt 4 N in
+      let lb = length_spelt 2 1 in
+      let li = length_spelt 4 id in
       let lg = length-append (spelt 4 id) s in
       let l₂ = length-append a b in
       let l₃ = length-append (a ++ b) c in
@@ -150,9 +150,9 @@ module _ (d : List ℕ) (at : ℕ) where
 unfoldable pub new_bytes : ℕ → List ℕ → Fields → ℕ → List ℕ → List ℕ
 new_bytes m name f id s = front_bytes name f ++ back_bytes m id s
 
-rule-size : (m : ℕ) (name : List ℕ) (f : Fields) (id : ℕ) (s : List ℕ) → length (new_bytes m name f id s) ≡ 34 + length (text_bytes name) + length (head_bytes m) + length s
+rule_size : (m : ℕ) (name : List ℕ) (f : Fields) (id : ℕ) (s : List ℕ) → length (new_bytes m name f id s) ≡ 34 + length (text_bytes name) + length (head_bytes m) + length s
 unfolding new_bytes
-rule-size m name f id s = omega (arith, length-append (front_bytes name f) (back_bytes m id s), front-size name f, back-size m id s)
+rule_size m name f id s = omega (arith, length-append (front_bytes name f) (back_bytes m id s), front_size name f, back_size m id s)
 
 -- whatever rules the deck that was found has: the rule with this name, these fields and the element x, whose bytes these are, is added
 unfoldable pub Extends : Site → List ℕ → Fields → ℕ → List ℕ → List ℕ → Outcome → List ℕ → Type 0
@@ -176,71 +176,71 @@ module _ (g : Site) (name : List ℕ) (f : Fields) (id : ℕ) (s d : List ℕ) w
     unfolding before new_bytes
     added_is b t =
         let a : take (length rs) rs ≡ rs = take_all (length rs) rs (omega arith) in
-        let i = before-is v rs (length rs) (new_rule (text_of name) f x ∷ []) (omega arith) in
-        (rw a at i) ∙ rw (rules_cons, rules-none, append-nil, front-is name f x t, o.many, back_is (length rs) id s x b, o.sound.is, written_is v rs) refl
+        let i = before_is v rs (length rs) (new_rule (text_of name) f x ∷ []) (omega arith) in
+        (rw a at i) ∙ rw (rules_cons, rules_none, append-nil, front_is name f x t, o.many, back_is (length rs) id s x b, o.sound.is, written_is v rs) refl
 
-    added-long : (placed Studio 0).write x ≡ spelt 4 id ++ s → text_bytes name ≡ string.write (text_of name) → length (lead v rs ++ rules 0 edits) ≡ g.bytes + 34 + length (text_bytes name) + length (head_bytes g.rules) + length s
-    added-long b t = ap length (added_is b t) ∙ omega (arith, length-append (take g.bytes d) (new_bytes g.rules name f id s), rule-size g.rules name f id s, length-take-le g.bytes d o.within)
+    added_long : (placed Studio 0).write x ≡ spelt 4 id ++ s → text_bytes name ≡ string.write (text_of name) → length (lead v rs ++ rules 0 edits) ≡ g.bytes + 34 + length (text_bytes name) + length (head_bytes g.rules) + length s
+    added_long b t = ap length (added_is b t) ∙ omega (arith, length-append (take g.bytes d) (new_bytes g.rules name f id s), rule_size g.rules name f id s, length-take-le g.bytes d o.within)
 
-    added-fits : Fits p (new_rule (text_of name) f x) → Every (Fits p) edits
+    added_fits : Fits p (new_rule (text_of name) f x) → Every (Fits p) edits
     unfolding Every
-    added-fits w = every_append (Fits p) rs (new_rule (text_of name) f x ∷ []) (fits-deck p (deck_of v rs) o.sound.fit) (w, tt)
+    added_fits w = every_append (Fits p) rs (new_rule (text_of name) f x ∷ []) (fits_deck p (deck_of v rs) o.sound.fit) (w, tt)
 
-  added-holds : {at : ℕ} {y₁ y₂ : List ℕ} → at ≡ g.bytes + 24 + length (text_bytes name) → g.bytes + 34 + length (text_bytes name) + length (head_bytes g.rules) + length s ≤ length d → y₁ ≡ put_in d g.bytes (front_bytes name f) → y₂ ≡ put_in y₁ at (back_bytes g.rules id s)
+  added_holds : {at : ℕ} {y₁ y₂ : List ℕ} → at ≡ g.bytes + 24 + length (text_bytes name) → g.bytes + 34 + length (text_bytes name) + length (head_bytes g.rules) + length s ≤ length d → y₁ ≡ put_in d g.bytes (front_bytes name f) → y₂ ≡ put_in y₁ at (back_bytes g.rules id s)
       → Holds y₂ (take g.bytes d ++ new_bytes g.rules name f id s) (g.bytes + length (new_bytes g.rules name f id s)) d
   unfolding new_bytes
-  added-holds {at} {y₁} {y₂} ea l e₁ e₂ =
+  added_holds {at} {y₁} {y₂} ea l e₁ e₂ =
       let F = front_bytes name f in
       let K = back_bytes g.rules id s in
-      let lr = rule-size g.rules name f id s in
-      let lf = front-size name f in
-      let lk = back-size g.rules id s in
+      let lr = rule_size g.rules name f id s in
+      let lf = front_size name f in
+      let lk = back_size g.rules id s in
       let e₂' : y₂ ≡ put_in d g.bytes (F ++ K) = put_both d g.bytes F K e₁ e₂ (omega arith) (omega arith) in
-      holds-behind d g.bytes (F ++ K) (omega arith) e₂'
+      holds_behind d g.bytes (F ++ K) (omega arith) e₂'
 
   -- size is what a String of the name takes, head the head of the rule, w an offset; q is what 18, 19 and 20 were judged as
   module _ {size head w : ℕ} {q : Outcome} where
     pub extend_out : is_text name ≡ true → size ≡ text_size name → head ≡ length (head_bytes g.rules) → w ≡ wide g.version → q ≡ room_for (g.rules + 1) (g.bytes + 24 + size + 10 + head + length s + w) (length d) → ((u : ℕ) → q ≡ Outcome.Done u → ⊥) → Extends g name f id s d q d
     unfolding Extends
     extend_out it z hz ew j h p v rs x o fx b t =
-        let lt = text-size name it in
-        let al = added-long v rs x o b t in
+        let lt = text_size_lem name it in
+        let al = added_long v rs x o b t in
         let y : w ≡ wide v = ew ∙ ap wide o.version in
-        let e : g.bytes + 24 + size + 10 + head + length s + w ≡ length (written v (edits v rs x o)) = omega (arith, al, written-one_more v rs (edits v rs x o) (one_more v rs x o), lt, y, z, hz) in
+        let e : g.bytes + 24 + size + 10 + head + length s + w ≡ length (written v (edits v rs x o)) = omega (arith, al, written_one_more v rs (edits v rs x o) (one_more v rs x o), lt, y, z, hz) in
         made_out v g.bytes d refl j h (many v rs x o) e
 
-    pub extend-done : {y₁ y₂ : List ℕ} (y₃ : List ℕ) (r : ℕ) {u : ℕ} → HandedFields f → is_text name ≡ true → size ≡ text_size name → head ≡ length (head_bytes g.rules) → w ≡ wide g.version → q ≡ room_for (g.rules + 1) (g.bytes + 24 + size + 10 + head + length s + w) (length d) → q ≡ Outcome.Done u
+    pub extend_done : {y₁ y₂ : List ℕ} (y₃ : List ℕ) (r : ℕ) {u : ℕ} → HandedFields f → is_text name ≡ true → size ≡ text_size name → head ≡ length (head_bytes g.rules) → w ≡ wide g.version → q ≡ room_for (g.rules + 1) (g.bytes + 24 + size + 10 + head + length s + w) (length d) → q ≡ Outcome.Done u
         → y₁ ≡ put_in d g.bytes (front_bytes name f) → y₂ ≡ put_in y₁ (g.bytes + 24 + size) (back_bytes g.rules id s) → Finishes g (g.rules + 1) (g.bytes + 24 + size + 10 + head + length s) y₂ r y₃ → Extends g name f id s d q y₃
     unfolding Extends
-    extend-done y₃ r hf it z hz ew j h e₁ e₂ fin p v rs x o fx b t =
+    extend_done y₃ r hf it z hz ew j h e₁ e₂ fin p v rs x o fx b t =
         let n = g.bytes + 24 + size + 10 + head + length s in
-        let lt = text-size name it in
-        let al = added-long v rs x o b t in
-        let lr = rule-size g.rules name f id s in
+        let lt = text_size_lem name it in
+        let al = added_long v rs x o b t in
+        let lr = rule_size g.rules name f id s in
         let l = (roomy (g.rules + 1) (n + w) (length d) j h).inside in
         let y : w ≡ wide v = ew ∙ ap wide o.version in
         let hi : g.bytes + length (new_bytes g.rules name f id s) ≡ max g.bytes n = omega arith in
         let en : n ≡ length (lead v rs ++ rules 0 (edits v rs x o)) = omega arith in
-        let e : n + w ≡ length (written v (edits v rs x o)) = omega (arith, en, written-one_more v rs (edits v rs x o) (one_more v rs x o), y) in
-        made-finish g (g.rules + 1) n (n + w) d p v rs o r (added-fits v rs x o (fx hf)) j h fin (rw (hi, ← added_is v rs x o b t) at (added-holds (omega arith) (omega arith) e₁ e₂)) en (omega arith) refl (many v rs x o) e
+        let e : n + w ≡ length (written v (edits v rs x o)) = omega (arith, en, written_one_more v rs (edits v rs x o) (one_more v rs x o), y) in
+        made_finish g (g.rules + 1) n (n + w) d p v rs o r (added_fits v rs x o (fx hf)) j h fin (rw (hi, ← added_is v rs x o b t) at (added_holds (omega arith) (omega arith) e₁ e₂)) en (omega arith) refl (many v rs x o) e
 
 -- ---- what is judged before
 
 module _ (p : Product) (g : Site) (name : List ℕ) (f : Fields) (id : ℕ) (s d : List ℕ) where
-  pub rule-text : is_text name ≡ false → MakesAs p last_of g (add_rule name f id s) d (Outcome.No Fault.Text 0) d
+  pub rule_text : is_text name ≡ false → MakesAs p last_of g (add_rule name f id s) d (Outcome.No Fault.Text 0) d
   unfolding MakesAs edited
-  rule-text e v rs o = made-no v g.bytes d (no_text name _ e)
+  rule_text e v rs o = made_no v g.bytes d (no_text name _ e)
 
   module _ {t : Read} where
-    pub rule-given : {i r : Outcome} {c : Fault} {q : ℕ} → is_text name ≡ true → t ≡ told 0 none (given p id s) → t ≡ Read.No q c → i ≡ end_says t → r ≡ in_given i → MakesAs p last_of g (add_rule name f id s) d r d
+    pub rule_given : {i r : Outcome} {c : Fault} {q : ℕ} → is_text name ≡ true → t ≡ told 0 none (given p id s) → t ≡ Read.No q c → i ≡ end_says t → r ≡ in_given i → MakesAs p last_of g (add_rule name f id s) d r d
     unfolding MakesAs edited
-    rule-given {c = c} e a h ei er v rs o =
-        let u = told-no 0 none (given p id s) a h in
-        let y = made-given v g.bytes d (if-text name _ e ∙ no-given _ (u.is ∙ ap (refused c) (sym (u.ends ∙ zero-add u.o)))) in
+    rule_given {c = c} e a h ei er v rs o =
+        let u = told_no 0 none (given p id s) a h in
+        let y = made_given v g.bytes d (if_text_lem name _ e ∙ no_given _ (u.is ∙ ap (refused c) (sym (u.ends ∙ zero-add u.o)))) in
         (er ∙ ap in_given (ei ∙ ap end_says h) ∙ y.0, y.1)
 
-    pub rule-done : (r : Outcome) (d' : List ℕ) {w l : ℕ} → id < 256 ^ 4 → Bytes name → Bytes s → is_text name ≡ true → t ≡ told 0 none (given p id s) → t ≡ Read.Got l w → Extends g name f id s d r d' → MakesAs p last_of g (add_rule name f id s) d r d'
+    pub rule_done : (r : Outcome) (d' : List ℕ) {w l : ℕ} → id < 256 ^ 4 → Bytes name → Bytes s → is_text name ≡ true → t ≡ told 0 none (given p id s) → t ≡ Read.Got l w → Extends g name f id s d r d' → MakesAs p last_of g (add_rule name f id s) d r d'
     unfolding MakesAs edited Extends
-    rule-done r d' hi bn bs e a h x v rs o =
-        let u = told-got 0 none (given p id s) a h in
-        rw (if-text name _ e, at-given _ u.is) (x p v rs u.x o (λ hf. new-fits p (text_of name) f u.x hf (text-fits name bn e) (given-fits p id s u.x u.n hi bs u.is)) (first-written p Studio id s u.x u.n bs u.is) (text-is name bn e))
+    rule_done r d' hi bn bs e a h x v rs o =
+        let u = told_got 0 none (given p id s) a h in
+        rw (if_text_lem name _ e, at_given_lem _ u.is) (x p v rs u.x o (λ hf. new_fits p (text_of name) f u.x hf (text_fits name bn e) (given_fits p id s u.x u.n hi bs u.is)) (first_written p Studio id s u.x u.n bs u.is) (text_is name bn e))

@@ -18,8 +18,8 @@ use Rattle.scan.specs.declared.Scan.{Scan}
 use Rattle.scan.specs.declared.Scan.TheVariants as Scan
 use Rattle.deck.specs.Deck.{Deck, base_of, read_as, read_by, read_deck, scanned}
 use Rattle.deck.specs.Written.{start_of}
-use Rattle.steps.specs.Laws.Steps.{Sound, sound-read, Here, here, here-stands}
-use Rattle.steps.specs.Laws.Starts.{Starts, starts_is, starts-never}
+use Rattle.steps.specs.Laws.Steps.{Sound, sound_read, Here, here, here_stands}
+use Rattle.steps.specs.Laws.Starts.{Starts, starts_is, starts_never}
 use Rattle.asked.specs.Asked.{asked_first, asked_of, asked_by, asked}
 
 -- ---- as the code finds it
@@ -38,25 +38,25 @@ module _ {W : Type 0} (p : Product) (v : ℕ) (s : List ℕ) (base k : ℕ) (f :
   unfolding Finds Where
   finds {at = at} c i g rs o b h =
       let e : at ≡ start_of v rs k = starts_is s v base k c p rs o b (omega (arith, length-drop k rs, ap length h.from)) i in
-      g h.r (rw e (here-stands p v s rs k h)) ∙ ap (λ (a : ℕ). f a h.r) e
+      g h.r (rw e (here_stands p v s rs k h)) ∙ ap (λ (a : ℕ). f a h.r) e
 
-  pub finds-never : {c : Fault} {q : ℕ} → Starts s v base k r → r ≡ Read.No q c → Finds p v s base k f w
+  pub finds_never : {c : Fault} {q : ℕ} → Starts s v base k r → r ≡ Read.No q c → Finds p v s base k f w
   unfolding Finds
-  finds-never c i rs o b h = starts-never s v base k c p rs o b (omega (arith, length-drop k rs, ap length h.from)) i
+  finds_never c i rs o b h = starts_never s v base k c p rs o b (omega (arith, length-drop k rs, ap length h.from)) i
 
 -- the product is that of the edition
 pub by_product : {W : Type 0} (f : Product → ℕ → Rule → W) (edition v base k : ℕ) (s : List ℕ) (w : W) {e : Edition} {p : Product} → e ≡ edition_of edition → e ≡ Edition.Of p → Finds p v s base k (f p) w → (q : Product) → edition_of edition ≡ Edition.Of q → Finds q v s base k (f q) w
 by_product f edition v base k s w {p = p} h i g q j = let z : Edition.Of p ≡ Edition.Of q = sym i ∙ h ∙ j in let y : p ≡ q = cc in rw (← y) g
 
 module _ {W : Type 0} (no : Fault → ℕ → W) (f : Product → ℕ → Rule → W) (edition k : ℕ) (s : List ℕ) where
-  pub asked-none : {e : Edition} {v : W} → e ≡ edition_of edition → e ≡ Edition.Unknown → v ≡ no Fault.Edition 0 → v ≡ asked no f edition k s
+  pub asked_none : {e : Edition} {v : W} → e ≡ edition_of edition → e ≡ Edition.Unknown → v ≡ no Fault.Edition 0 → v ≡ asked no f edition k s
   unfolding asked
-  asked-none h i w = rw (← h, i) w
+  asked_none h i w = rw (← h, i) w
 
   module _ {c : Scan} where
-    pub asked-refused : {v : W} {d : Fault} {q : ℕ} → c ≡ scanned (read_deck edition s) → c ≡ Scan.No d q → v ≡ no d q → v ≡ asked no f edition k s
+    pub asked_refused : {v : W} {d : Fault} {q : ℕ} → c ≡ scanned (read_deck edition s) → c ≡ Scan.No d q → v ≡ no d q → v ≡ asked no f edition k s
     unfolding asked read_deck read_by
-    asked-refused {d = d} {q = q} g o w = w ∙ by (edition_of edition) (sym o ∙ g)
+    asked_refused {d = d} {q = q} g o w = w ∙ by (edition_of edition) (sym o ∙ g)
       where
         go : (p : Product) (a : Answer Deck) → Scan.No d q ≡ scanned a → no d q ≡ asked_of no f k p a
         go p (got x m) z = absurd (let y : ◌≡◌ {A = ℕ} 0 1 = cc in omega arith)
@@ -68,14 +68,14 @@ module _ {W : Type 0} (no : Fault → ℕ → W) (f : Product → ℕ → Rule �
 
     module _ {v base n t : ℕ} where
       -- an accepted deck is sound
-      asked-got : {w : W} → Bytes s → c ≡ scanned (read_deck edition s) → c ≡ Scan.Is v base n t
+      asked_got : {w : W} → Bytes s → c ≡ scanned (read_deck edition s) → c ≡ Scan.Is v base n t
           → ((p : Product) (d : Deck) → edition_of edition ≡ Edition.Of p → v ≡ d.version → n ≡ length d.rules → base ≡ base_of d.version (length d.rules) → Sound p d.version s d.rules → w ≡ asked_first no (f p) (start_of d.version d.rules k) (drop k d.rules))
           → w ≡ asked no f edition k s
       unfolding asked read_deck read_by
-      asked-got {w} bs g o h = by (edition_of edition) refl (sym o ∙ g)
+      asked_got {w} bs g o h = by (edition_of edition) refl (sym o ∙ g)
         where
           go : (p : Product) (a : Answer Deck) → edition_of edition ≡ Edition.Of p → read_as p s ≡ a → Scan.Is v base n t ≡ scanned a → w ≡ asked_of no f k p a
-          go p (got d m) i y z = h p d i (cc) (cc) (cc) (sound-read p s d m bs y)
+          go p (got d m) i y z = h p d i (cc) (cc) (cc) (sound_read p s d m bs y)
           go p (refused x q) i y z = absurd (let u : ◌≡◌ {A = ℕ} 0 1 = cc in omega arith)
 
           by : (e : Edition) → edition_of edition ≡ e → Scan.Is v base n t ≡ scanned (read_by e s) → w ≡ asked_by no f k e s
@@ -83,11 +83,11 @@ module _ {W : Type 0} (no : Fault → ℕ → W) (f : Product → ℕ → Rule �
           by Edition.Unknown i z = absurd (let u : ◌≡◌ {A = ℕ} 0 1 = cc in omega arith)
 
       pub asked_absent : Bytes s → c ≡ scanned (read_deck edition s) → c ≡ Scan.Is v base n t → n ≤ k → no Fault.Absent 0 ≡ asked no f edition k s
-      asked_absent bs g o l = asked-got bs g o (λ p d i x m b y. let e : drop k d.rules ≡ [] = drop_of_length-le d.rules {i = k} (omega arith) in rw e)
+      asked_absent bs g o l = asked_got bs g o (λ p d i x m b y. let e : drop k d.rules ≡ [] = drop_of_length-le d.rules {i = k} (omega arith) in rw e)
 
       pub asked_is : {w : W} → Bytes s → c ≡ scanned (read_deck edition s) → c ≡ Scan.Is v base n t → k < n → ((p : Product) → edition_of edition ≡ Edition.Of p → Finds p v s base k (f p) w) → w ≡ asked no f edition k s
       unfolding Finds
-      asked_is {w} bs g o l h = asked-got bs g o (λ p d i x m b y. go p d i x b y (here p d.version s d.rules k y (omega arith)))
+      asked_is {w} bs g o l h = asked_got bs g o (λ p d i x m b y. go p d i x b y (here p d.version s d.rules k y (omega arith)))
         where
           go : (p : Product) (d : Deck) → edition_of edition ≡ Edition.Of p → v ≡ d.version → base ≡ base_of d.version (length d.rules) → Sound p d.version s d.rules → Here p d.version s d.rules k → w ≡ asked_first no (f p) (start_of d.version d.rules k) (drop k d.rules)
           go p d i x b y e = (rw x at (h p i)) d.rules y b e ∙ ap (asked_first no (f p) (start_of d.version d.rules k)) (sym e.from)

@@ -35,37 +35,37 @@ use Rattle.data_word.specs.Word.{word_at}
 use Rattle.word_view.specs.Word.{rule_word, word_view}
 use Rattle.word_view.specs.Laws.Word.{element_word}
 use Rattle.fixed.specs.Fixed.{fixed_at, fixed_fields, fields_say, fields_answer}
-use Rattle.bounds.specs.Laws.Refused.{Only, NotLarge, Each, refused_as, as-refused, OfGift, only-planned}
+use Rattle.bounds.specs.Laws.Refused.{Only, NotLarge, Each, refused_as, as_refused, OfGift, only_planned}
 use Rattle.bounds.specs.Calls.{judges, owns, Gift, nothing, a_deck, an_element, given_to, check_numbers, read_numbers, view_numbers, each_exactly, gift_numbers, later_numbers, edit_numbers}
-use Rattle.bounds.specs.Laws.Places.{BytesOf, given-bytes}
+use Rattle.bounds.specs.Laws.Places.{BytesOf, given_bytes}
 use Rattle.bounds.specs.Listed.{Numbers, allowed, Lists, numbers, exactly}
-use Rattle.bounds.specs.Laws.Listed.{allowed-first, allowed-later}
-use Rattle.bounds.specs.Laws.Faulty.{Faulty, deck_faulty, deck-allowed, edition-listed, faulty-listed, ElementListed, element-listed}
+use Rattle.bounds.specs.Laws.Listed.{allowed_first, allowed_later}
+use Rattle.bounds.specs.Laws.Faulty.{Faulty, deck_faulty, deck_allowed, edition_listed, faulty_listed, ElementListed, element_listed_lem}
 use Rattle.text.specs.Text.{word, Text}
 
-pub check-listed : (edition : ℕ) (s : List ℕ) → Lists check_numbers (answered (read_deck edition s))
+pub check_listed : (edition : ℕ) (s : List ℕ) → Lists check_numbers (answered (read_deck edition s))
 unfolding read_deck read_by
-check-listed edition s = by (edition_of edition)
+check_listed edition s = by (edition_of edition)
   where
     read : (p : Product) (a : Answer Deck) → read_as p s ≡ a → Lists check_numbers (answered a)
     read p (got k n) e = tt
-    read p (refused c q) e = faulty-listed [] c q (as-refused Faulty (deck_faulty p s) e)
+    read p (refused c q) e = faulty_listed [] c q (as_refused Faulty (deck_faulty p s) e)
 
     by : (o : Edition) → Lists check_numbers (answered (read_by o s))
     by (Edition.Of p) = read p (read_as p s) refl
-    by Edition.Unknown = edition-listed []
+    by Edition.Unknown = edition_listed []
 
 -- and so does a pass over the deck
-pub pass-listed : (edition : ℕ) (s : List ℕ) → Lists check_numbers (scan_says (scanned (read_deck edition s)))
-pass-listed edition s = go (read_deck edition s) (check-listed edition s)
+pub pass_listed : (edition : ℕ) (s : List ℕ) → Lists check_numbers (scan_says (scanned (read_deck edition s)))
+pass_listed edition s = go (read_deck edition s) (check_listed edition s)
   where
     go : (a : Answer Deck) → Lists check_numbers (answered a) → Lists check_numbers (scan_says (scanned a))
     go (got k n) f = tt
     go (refused c q) f = f
 
-pub read-listed : (edition rules elements : ℕ) (s : List ℕ) → Lists read_numbers (read_says (edition_of edition) rules elements s)
+pub read_listed : (edition rules elements : ℕ) (s : List ℕ) → Lists read_numbers (read_says (edition_of edition) rules elements s)
 unfolding in_tables pick allowed within
-read-listed edition rules elements s = by (edition_of edition)
+read_listed edition rules elements s = by (edition_of edition)
   where
     read : (p : Product) (a : Answer Deck) → read_as p s ≡ a → Lists read_numbers (tabled rules elements a)
     read p (got k n) e = few (leb (rule_width * length k.rules) rules) (leb (element_width * total elements_in k.rules) elements)
@@ -74,56 +74,56 @@ read-listed edition rules elements s = by (edition_of edition)
         few true true = tt
         few true false = (refl, omega arith)
         few false y = (refl, omega arith)
-    read p (refused c q) e = faulty-listed (numbers 14 14 1 ∷ []) c q (as-refused Faulty (deck_faulty p s) e)
+    read p (refused c q) e = faulty_listed (numbers 14 14 1 ∷ []) c q (as_refused Faulty (deck_faulty p s) e)
 
     by : (o : Edition) → Lists read_numbers (read_says o rules elements s)
     by (Edition.Of p) = read p (read_as p s) refl
-    by Edition.Unknown = edition-listed (numbers 14 14 1 ∷ [])
+    by Edition.Unknown = edition_listed (numbers 14 14 1 ∷ [])
 
-absent-listed : (last q : ℕ) → q ≤ last → q ≤ 2 → Lists (view_numbers last) (Outcome.No Fault.Absent q)
-absent-listed last q f g = (allowed-later (numbers 1 13 60000) _ 16 q (allowed-later (numbers 29 29 60000) _ 16 q (allowed-first 16 16 last [] 16 q (omega arith) (omega arith) f)), g)
+absent_listed : (last q : ℕ) → q ≤ last → q ≤ 2 → Lists (view_numbers last) (Outcome.No Fault.Absent q)
+absent_listed last q f g = (allowed_later (numbers 1 13 60000) _ 16 q (allowed_later (numbers 29 29 60000) _ 16 q (allowed_first 16 16 last [] 16 q (omega arith) (omega arith) f)), g)
 
 -- Q says it of what is answered
-module _ {W : Type 0} (no : Fault → ℕ → W) (f : Product → ℕ → Rule → W) (last : ℕ) (Q : W → Type 0) (says-no : (c : Fault) (q : ℕ) → Lists (view_numbers last) (Outcome.No c q) → Q (no c q)) (there : (p : Product) (at : ℕ) (r : Rule) → Q (f p at r)) where
-  asked-listed : (edition k : ℕ) (s : List ℕ) → Q (asked no f edition k s)
+module _ {W : Type 0} (no : Fault → ℕ → W) (f : Product → ℕ → Rule → W) (last : ℕ) (Q : W → Type 0) (says_no : (c : Fault) (q : ℕ) → Lists (view_numbers last) (Outcome.No c q) → Q (no c q)) (there : (p : Product) (at : ℕ) (r : Rule) → Q (f p at r)) where
+  asked_listed : (edition k : ℕ) (s : List ℕ) → Q (asked no f edition k s)
   unfolding asked
-  asked-listed edition k s = by (edition_of edition)
+  asked_listed edition k s = by (edition_of edition)
     where
       first : (p : Product) (at : ℕ) (rs : List Rule) → Q (asked_first no (f p) at rs)
-      first p at [] = says-no Fault.Absent 0 (absent-listed last 0 (omega arith) (omega arith))
+      first p at [] = says_no Fault.Absent 0 (absent_listed last 0 (omega arith) (omega arith))
       first p at (r ∷ rs) = there p at r
 
       read : (p : Product) (a : Answer Deck) → read_as p s ≡ a → Q (asked_of no f k p a)
       read p (got d n) e = first p _ (drop k d.rules)
-      read p (refused c q) e = says-no c q (faulty-listed (numbers 16 16 last ∷ []) c q (as-refused Faulty (deck_faulty p s) e))
+      read p (refused c q) e = says_no c q (faulty_listed (numbers 16 16 last ∷ []) c q (as_refused Faulty (deck_faulty p s) e))
 
       by : (o : Edition) → Q (asked_by no f k o s)
       by (Edition.Of p) = read p (read_as p s) refl
-      by Edition.Unknown = says-no Fault.Edition 0 (edition-listed (numbers 16 16 last ∷ []))
+      by Edition.Unknown = says_no Fault.Edition 0 (edition_listed (numbers 16 16 last ∷ []))
 
 abbrev Viewed : ℕ → View → Type 0
 Viewed last v = Lists (view_numbers last) (view_says v)
 
-pub name-listed : (edition k : ℕ) (s : List ℕ) → Lists (view_numbers 0) (view_says (name_view edition k s))
+pub name_listed : (edition k : ℕ) (s : List ℕ) → Lists (view_numbers 0) (view_says (name_view edition k s))
 unfolding name_view
-name-listed edition k s = asked-listed View.No (λ p. name_at) 0 (Viewed 0) (λ c q f. f) (λ p at r. tt) edition k s
+name_listed edition k s = asked_listed View.No (λ p. name_at) 0 (Viewed 0) (λ c q f. f) (λ p at r. tt) edition k s
 
 -- "no such rule / element / word, or no word list there": 0, 1 or 2
-pub word-listed : (edition k e w : ℕ) (s : List ℕ) → Lists (view_numbers 2) (view_says (word_view edition k e w s))
+pub word_listed : (edition k e w : ℕ) (s : List ℕ) → Lists (view_numbers 2) (view_says (word_view edition k e w s))
 unfolding word_view
-word-listed edition k e w s = asked-listed View.No (rule_word k e w) 2 (Viewed 2) (λ c q f. f) (λ p at r. element (drop e r.elements) _) edition k s
+word_listed edition k e w s = asked_listed View.No (rule_word k e w) 2 (Viewed 2) (λ c q f. f) (λ p at r. element (drop e r.elements) _) edition k s
   where
     worded : (ws : List Text) (at : ℕ) → Viewed 2 (word_at at ws)
-    worded [] at = absent-listed 2 2 (omega arith) (omega arith)
+    worded [] at = absent_listed 2 2 (omega arith) (omega arith)
     worded (t ∷ ws) at = tt
 
     element : (xs : List Element) (at : ℕ) → Viewed 2 (element_word e w at xs)
-    element [] at = absent-listed 2 1 (omega arith) (omega arith)
+    element [] at = absent_listed 2 1 (omega arith) (omega arith)
     element (x ∷ xs) at = worded (drop w (words_of x.1)) _
 
-pub fixed-listed : (edition k : ℕ) (s : List ℕ) → Lists (view_numbers 0) (fields_answer edition k s).0
+pub fixed_listed : (edition k : ℕ) (s : List ℕ) → Lists (view_numbers 0) (fields_answer edition k s).0
 unfolding fixed_fields
-fixed-listed edition k s = asked-listed Fielded.No (λ p. fixed_at) 0 (λ v. Lists (view_numbers 0) (fields_say v).0) (λ c q f. f) (λ p at r. tt) edition k s
+fixed_listed edition k s = asked_listed Fielded.No (λ p. fixed_at) 0 (λ v. Lists (view_numbers 0) (fields_say v).0) (λ c q f. f) (λ p at r. tt) edition k s
 
 -- ---- the edits
 
@@ -133,41 +133,41 @@ OwnListed e c q = Lists (edit_numbers e) (Outcome.No c q)
 abbrev GivenListed : Edit → Fault → ℕ → Type 0
 GivenListed e c q = Lists (edit_numbers e) (Outcome.Given c q)
 
-judges-listed : (e : Edit) → Each (OwnListed e) (judges e)
+judges_listed : (e : Edit) → Each (OwnListed e) (judges e)
 unfolding Each allowed within
-judges-listed (switch k on) = ((refl, omega arith), tt)
-judges-listed (rename k name) = ((refl, omega arith), ((refl, refl), tt))
-judges-listed (remove k) = ((refl, omega arith), tt)
-judges-listed (insert k second j) = ((refl, omega arith), ((refl, omega arith), tt))
-judges-listed (add_rule name f id s) = ((refl, refl), tt)
-judges-listed (add_element id s) = ((refl, refl), ((refl, refl), tt))
-judges-listed (add_word word) = ((refl, refl), ((refl, refl), ((refl, refl), tt)))
+judges_listed (switch k on) = ((refl, omega arith), tt)
+judges_listed (rename k name) = ((refl, omega arith), ((refl, refl), tt))
+judges_listed (remove k) = ((refl, omega arith), tt)
+judges_listed (insert k second j) = ((refl, omega arith), ((refl, omega arith), tt))
+judges_listed (add_rule name f id s) = ((refl, refl), tt)
+judges_listed (add_element id s) = ((refl, refl), ((refl, refl), tt))
+judges_listed (add_word word) = ((refl, refl), ((refl, refl), ((refl, refl), tt)))
 
-owns-listed : (e : Edit) → Each (OwnListed e) (owns e)
+owns_listed : (e : Edit) → Each (OwnListed e) (owns e)
 unfolding Each allowed within
-owns-listed e = ((refl, refl), ((refl, refl), ((refl, refl), ((refl, refl), ((refl, refl), judges-listed e)))))
+owns_listed e = ((refl, refl), ((refl, refl), ((refl, refl), ((refl, refl), ((refl, refl), judges_listed e)))))
 
 -- what is among the later rows is among all
 behind : (faults : List (Fault × ℕ)) (rows : List Numbers) (n q : ℕ) → allowed rows n q ≡ true → allowed (each_exactly faults rows) n q ≡ true
 behind [] rows n q f = f
-behind ((c, o) ∷ faults) rows n q f = allowed-later (exactly (number_of c) o) (each_exactly faults rows) n q (behind faults rows n q f)
+behind ((c, o) ∷ faults) rows n q f = allowed_later (exactly (number_of c) o) (each_exactly faults rows) n q (behind faults rows n q f)
 
-gift-allowed : (e : Edit) (n q : ℕ) → allowed (gift_numbers (given_to e)) n q ≡ true → allowed (edit_numbers e) n q ≡ true
-gift-allowed e n q f = allowed-later (numbers 1 13 60000) _ n q (allowed-later (numbers 29 29 60000) (later_numbers e) n q (behind (owns e) (gift_numbers (given_to e)) n q f))
+gift_allowed : (e : Edit) (n q : ℕ) → allowed (gift_numbers (given_to e)) n q ≡ true → allowed (edit_numbers e) n q ≡ true
+gift_allowed e n q f = allowed_later (numbers 1 13 60000) _ n q (allowed_later (numbers 29 29 60000) (later_numbers e) n q (behind (owns e) (gift_numbers (given_to e)) n q f))
 
-given-listed : (p : Product) (e : Edit) (g : Gift) → ((n q : ℕ) → allowed (gift_numbers g) n q ≡ true → allowed (edit_numbers e) n q ≡ true) → BytesOf g → OfGift (GivenListed e) p g
-given-listed p e nothing w h = tt
-given-listed p e (a_deck s) w h = refused_as (GivenListed e) (read_as p s) (λ c q z.
-    let f = as-refused Faulty (deck_faulty p s) z in
-    (w (number_of c + 32) q (deck-allowed 34 32 [] (number_of c) (number_of c + 32) q (omega arith) (omega arith) f.0 f.1.0), f.1.1))
-given-listed p e (an_element id s) w h = refused_as (GivenListed e) (given p id s) (λ c q z.
-    let f = as-refused ElementListed (element-listed p id s h) z in
+given_listed : (p : Product) (e : Edit) (g : Gift) → ((n q : ℕ) → allowed (gift_numbers g) n q ≡ true → allowed (edit_numbers e) n q ≡ true) → BytesOf g → OfGift (GivenListed e) p g
+given_listed p e nothing w h = tt
+given_listed p e (a_deck s) w h = refused_as (GivenListed e) (read_as p s) (λ c q z.
+    let f = as_refused Faulty (deck_faulty p s) z in
+    (w (number_of c + 32) q (deck_allowed 34 32 [] (number_of c) (number_of c + 32) q (omega arith) (omega arith) f.0 f.1.0), f.1.1))
+given_listed p e (an_element id s) w h = refused_as (GivenListed e) (given p id s) (λ c q z.
+    let f = as_refused ElementListed (element_listed_lem p id s h) z in
     (w (number_of c + 32) q f.0, f.1))
 
-pub edit-listed : (edition n : ℕ) (e : Edit) (d : List ℕ) {r : Outcome} {x : List ℕ} → Handed e → Edits edition n e d r x → Lists (edit_numbers e) r
+pub edit_listed : (edition n : ℕ) (e : Edit) (d : List ℕ) {r : Outcome} {x : List ℕ} → Handed e → Edits edition n e d r x → Lists (edit_numbers e) r
 unfolding says
-edit-listed edition n e d h f =
-    rw f.0 (go (planned edition n d e) (only-planned (OwnListed e) (GivenListed e) edition n d e (owns-listed e) (λ p i. (refused_as (OwnListed e) (read_as p (take n d)) (λ c q z. faulty-listed (later_numbers e) c q (as-refused Faulty (deck_faulty p (take n d)) z)), given-listed p e (given_to e) (gift-allowed e) (given-bytes e h)))))
+edit_listed edition n e d h f =
+    rw f.0 (go (planned edition n d e) (only_planned (OwnListed e) (GivenListed e) edition n d e (owns_listed e) (λ p i. (refused_as (OwnListed e) (read_as p (take n d)) (λ c q z. faulty_listed (later_numbers e) c q (as_refused Faulty (deck_faulty p (take n d)) z)), given_listed p e (given_to e) (gift_allowed e) (given_bytes e h)))))
   where
     go : (x : Plan Deck) → Only NotLarge (OwnListed e) (GivenListed e) x → Lists (edit_numbers e) (says x)
     go (become x) f = tt

@@ -5,8 +5,8 @@ use Rattle.format.specs.declared.Fault.{Fault}
 use Rattle.format.specs.declared.Fault.TheVariants as Fault
 use Rattle.format.specs.Fault.{place_of}
 use Rattle.format.specs.Format.{Answer, got, refused, end_of, whole, pick, Format, Bytes}
-use Rattle.format.specs.Laws.Format.{end-mapped}
-use Rattle.format.specs.Laws.ReadWrite.{within-is}
+use Rattle.format.specs.Laws.Format.{end_mapped}
+use Rattle.format.specs.Laws.ReadWrite.{within_is}
 use Rattle.format.specs.Combinators.{pair, judged, seq, number, count, fixed, flag}
 use Rattle.text.specs.Length.{long_length, in_long, length_behind}
 use Rattle.text.specs.Text.{string_length, string_of, unit, string, word_of, word}
@@ -21,7 +21,7 @@ use Rattle.kind.specs.Kinds.{kinds, has, row_in, in_product, offered, row_of, ki
 use Rattle.kind.specs.Laws.Kinds.{lacking, foreign}
 use Rattle.element.specs.Data.{one_zero, marker_data, simple_data, word_count, word_data, size_data, limit, date_data, data_of}
 use Rattle.given.specs.Given.{given, given_by, with_data}
-use Rattle.bounds.specs.Laws.Bounded.{Bounded, bounded-number, bounded-nothing, bounded-pick, bounded-judged, bounded-via, bounded-start, bounded-pair, bounded_then, bounded-fixed, bounded-flag, bounded-count, bounded-row, bounded-listed}
+use Rattle.bounds.specs.Laws.Bounded.{Bounded, bounded_number, bounded_nothing, bounded_pick, bounded_judged, bounded_via, bounded_start, bounded_pair, bounded_then, bounded_fixed, bounded_flag, bounded_count, bounded_row, bounded_listed}
 use Rattle.bounds.specs.Calls.{most}
 
 -- a bound is also any greater one
@@ -29,38 +29,38 @@ wider : {A : Type 0} (a : Format A) (m n : ℕ) → m ≤ n → Bounded a m → 
 unfolding Bounded
 wider a m n h f s b = omega (arith, f s b)
 
-text-length : Bounded string_length 3
+text_length : Bounded string_length 3
 unfolding string_length length_behind long_length
-text-length = bounded-via _ _ _ _ 3 (bounded-pair (number 1) length_behind 1 2 (bounded-number 1) (λ b f. bounded-pick (eqb b 255) in_long _ 2 (bounded-via _ _ _ _ 2 (bounded-judged _ Fault.Form (number 2) 2 (bounded-number 2))) (wider _ 0 2 (omega arith) (bounded-via _ _ _ _ 0 bounded-nothing))))
+text_length = bounded_via _ _ _ _ 3 (bounded_pair (number 1) length_behind 1 2 (bounded_number 1) (λ b f. bounded_pick (eqb b 255) in_long _ 2 (bounded_via _ _ _ _ 2 (bounded_judged _ Fault.Form (number 2) 2 (bounded_number 2))) (wider _ 0 2 (omega arith) (bounded_via _ _ _ _ 0 bounded_nothing))))
 
 text : Bounded string 513
 unfolding string_of
-text = bounded-start _ 513 (bounded-via _ _ _ _ 513 (bounded-pair string_length _ 3 510 text-length (λ l f. bounded-row unit 2 (bounded-number 2) l.1 255 (length_most l f))))
+text = bounded_start _ 513 (bounded_via _ _ _ _ 513 (bounded_pair string_length _ 3 510 text_length (λ l f. bounded_row unit 2 (bounded_number 2) l.1 255 (length_most l f))))
 
 wordy : Bounded word 517
 unfolding word_of
-wordy = bounded_then (fixed 4 0 Fault.Field) string 4 513 (bounded-fixed 4 0 Fault.Field) text
+wordy = bounded_then (fixed 4 0 Fault.Field) string 4 513 (bounded_fixed 4 0 Fault.Field) text
 
 count_most : (n : ℕ) → word_count.Fit n → n ≤ 64
 unfolding count judged
-count_most n f = (within-is 0 64 n f.1).1
+count_most n f = (within_is 0 64 n f.1).1
 
 one_zero_lem : Bounded one_zero 8
 unfolding one_zero
-one_zero_lem = bounded_then (fixed 4 1 Fault.Field) (fixed 4 0 Fault.Field) 4 4 (bounded-fixed 4 1 Fault.Field) (bounded-fixed 4 0 Fault.Field)
+one_zero_lem = bounded_then (fixed 4 1 Fault.Field) (fixed 4 0 Fault.Field) 4 4 (bounded_fixed 4 1 Fault.Field) (bounded_fixed 4 0 Fault.Field)
 
 limited : Bounded limit 16
 unfolding limit seq date
 limited =
-    bounded-via _ _ _ _ 16 (bounded-pair flag (λ x. _) 4 12 bounded-flag (λ x f. bounded_then (fixed 4 0 Fault.Field) date 4 8 (bounded-fixed 4 0 Fault.Field) (bounded-judged _ Fault.Date (number 8) 8 (bounded-number 8))))
+    bounded_via _ _ _ _ 16 (bounded_pair flag (λ x. _) 4 12 bounded_flag (λ x f. bounded_then (fixed 4 0 Fault.Field) date 4 8 (bounded_fixed 4 0 Fault.Field) (bounded_judged _ Fault.Date (number 8) 8 (bounded_number 8))))
 
 pub bounded_data : (k : Kind) → Bounded (data_of k) most
 unfolding marker_data simple_data word_data size_data date_data seq
-bounded_data Kind.Marker = wider _ 12 most (omega arith) (bounded-via _ _ _ _ 12 (bounded_then one_zero (fixed 4 1 Fault.Field) 8 4 one_zero_lem (bounded-fixed 4 1 Fault.Field)))
-bounded_data (Kind.Simple r) = wider _ 8 most (omega arith) (bounded-via _ _ _ _ 8 one_zero_lem)
-bounded_data Kind.WordList = bounded-via _ _ _ _ most (bounded-listed word_count word 4 517 64 (bounded-count 4 0 64) count_most wordy)
-bounded_data (Kind.Size r) = wider _ 16 most (omega arith) (bounded-via _ _ _ _ 16 (bounded_then one_zero (pair (number 4) (λ x. number 4)) 8 8 one_zero_lem (bounded-pair (number 4) (λ x. number 4) 4 4 (bounded-number 4) (λ x f. bounded-number 4))))
-bounded_data (Kind.Dates r) = wider _ 40 most (omega arith) (bounded-via _ _ _ _ 40 (bounded_then one_zero (pair limit (λ x. limit)) 8 32 one_zero_lem (bounded-pair limit (λ x. limit) 16 16 limited (λ x f. limited))))
+bounded_data Kind.Marker = wider _ 12 most (omega arith) (bounded_via _ _ _ _ 12 (bounded_then one_zero (fixed 4 1 Fault.Field) 8 4 one_zero_lem (bounded_fixed 4 1 Fault.Field)))
+bounded_data (Kind.Simple r) = wider _ 8 most (omega arith) (bounded_via _ _ _ _ 8 one_zero_lem)
+bounded_data Kind.WordList = bounded_via _ _ _ _ most (bounded_listed word_count word 4 517 64 (bounded_count 4 0 64) count_most wordy)
+bounded_data (Kind.Size r) = wider _ 16 most (omega arith) (bounded_via _ _ _ _ 16 (bounded_then one_zero (pair (number 4) (λ x. number 4)) 8 8 one_zero_lem (bounded_pair (number 4) (λ x. number 4) 4 4 (bounded_number 4) (λ x f. bounded_number 4))))
+bounded_data (Kind.Dates r) = wider _ 40 most (omega arith) (bounded_via _ _ _ _ 40 (bounded_then one_zero (pair limit (λ x. limit)) 8 32 one_zero_lem (bounded_pair limit (λ x. limit) 16 16 limited (λ x f. limited))))
 
 -- ---- a given element
 
@@ -68,19 +68,19 @@ abbrev row_place : Row → ℕ
 row_place r = place_of (kind_says r).0
 
 -- 41 and 42 "have place 0"
-row-place : (rows : List (Kind × List ℕ)) (id : ℕ) → row_place (row_in rows id) ≡ 0
+row_place_lem : (rows : List (Kind × List ℕ)) (id : ℕ) → row_place (row_in rows id) ≡ 0
 unfolding row_in pick
-row-place [] id = refl
-row-place ((k, ids) ∷ rows) id = go (has ids id) (row-place rows id)
+row_place_lem [] id = refl
+row_place_lem ((k, ids) ∷ rows) id = go (has ids id) (row_place_lem rows id)
   where
     go : (b : Bool) → row_place (row_in rows id) ≡ 0 → row_place (pick b (Row.Is k) (row_in rows id)) ≡ 0
     go true h = refl
     go false h = h
 
-offered-place : (p : Product) (r : Row) → row_place r ≡ 0 → row_place (offered p r) ≡ 0
+offered_place : (p : Product) (r : Row) → row_place r ≡ 0 → row_place (offered p r) ≡ 0
 unfolding offered pick
-offered-place p (Row.No c q) h = h
-offered-place p (Row.Is k) h = go (in_product p k)
+offered_place p (Row.No c q) h = h
+offered_place p (Row.Is k) h = go (in_product p k)
   where
     go : (b : Bool) → row_place (pick b (Row.Is k) (Row.No Fault.Foreign 0)) ≡ 0
     go true = refl
@@ -88,7 +88,7 @@ offered-place p (Row.Is k) h = go (in_product p k)
 
 row_zero : (p : Product) (id : ℕ) → row_place (row_of p id) ≡ 0
 unfolding row_of
-row_zero p id = offered-place p (row_in kinds id) (row-place kinds id)
+row_zero p id = offered_place p (row_in kinds id) (row_place_lem kinds id)
 
 -- what holds of 41 and of 42 at 0 holds of every identifier that is refused
 pub row_refuses : (P : Fault → ℕ → Type 0) → P Fault.Unknown 0 → P Fault.Foreign 0 → (p : Product) (id : ℕ) {c : Fault} {q : ℕ} → row_of p id ≡ Row.No c q → P c q
@@ -99,19 +99,19 @@ row_refuses P u f p id {c} {q} e = let z : q ≡ 0 = rw e at (row_zero p id) in 
     go (Row.Is k) h i = rw (foreign p k i) f
     go (Row.No d o) h i = rw (lacking kinds id (h ∙ i)) u
 
-pub whole-end : {A : Type 0} (n : ℕ) (a : Answer A) → end_of (whole n a) ≤ end_of a
+pub whole_end : {A : Type 0} (n : ℕ) (a : Answer A) → end_of (whole n a) ≤ end_of a
 unfolding whole end_of pick
-whole-end n (got x m) = go (eqb m n)
+whole_end n (got x m) = go (eqb m n)
   where
     go : (b : Bool) → end_of (pick b (got x m) (refused Fault.Over m)) ≤ m
     go true = omega arith
     go false = omega arith
-whole-end n (refused c q) = omega arith
+whole_end n (refused c q) = omega arith
 
-pub given-end : (p : Product) (id : ℕ) (s : List ℕ) → Bytes s → end_of (given p id s) ≤ most
+pub given_end : (p : Product) (id : ℕ) (s : List ℕ) → Bytes s → end_of (given p id s) ≤ most
 unfolding given Bounded end_of
-given-end p id s b = go (row_of p id) (row_zero p id)
+given_end p id s b = go (row_of p id) (row_zero p id)
   where
     go : (r : Row) → row_place r ≡ 0 → end_of (given_by r id s) ≤ most
-    go (Row.Is k) h = omega (arith, end-mapped (with_data id) (whole (length s) ((data_of k).read s)), whole-end (length s) ((data_of k).read s), bounded_data k s b)
+    go (Row.Is k) h = omega (arith, end_mapped (with_data id) (whole (length s) ((data_of k).read s)), whole_end (length s) ((data_of k).read s), bounded_data k s b)
     go (Row.No c q) h = omega arith

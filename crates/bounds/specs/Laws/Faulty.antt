@@ -8,7 +8,7 @@ use Rattle.format.specs.declared.Outcome.TheVariants as Outcome
 use Rattle.format.specs.Fault.{number_of}
 use Rattle.format.specs.Format.{Answer, got, refused, end_of, shift, mapped, and_then, whole, pick, Format, Bytes}
 use Rattle.format.specs.ReadWrite.{pair_read, judge, judge_of, number_read, value, within}
-use Rattle.format.specs.Laws.ReadWrite.{within-is}
+use Rattle.format.specs.Laws.ReadWrite.{within_is}
 use Rattle.format.specs.Combinators.{pair, judged, via, seq, ◌then◌, number, fixed, bytes}
 use Rattle.kind.specs.declared.Product.{Product}
 use Rattle.kind.specs.declared.Kind.{Kind}
@@ -21,11 +21,11 @@ use Rattle.deck.specs.Deck.{Deck, mark, rule_count, version, wide, rule_list, de
 use Rattle.deck.specs.Written.{deck_of}
 use Rattle.given.specs.Given.{given, given_by, with_data}
 use Rattle.bounds.specs.Calls.{most, element_numbers, deck_numbers}
-use Rattle.bounds.specs.Laws.Data.{row_refuses, given-end, whole-end}
-use Rattle.bounds.specs.Laws.Faults.{For, Gives, for-refused, for-mapped, for-shift, for-whole, gives-counted, gives-indexed, gives-count, gives_data, gives-rule}
+use Rattle.bounds.specs.Laws.Data.{row_refuses, given_end, whole_end}
+use Rattle.bounds.specs.Laws.Faults.{For, Gives, for_refused, for_mapped, for_shift, for_whole, gives_counted, gives_indexed, gives_count, gives_data, gives_rule}
 use Rattle.bounds.specs.Laws.Refused.{RefusedAs, refused_as}
 use Rattle.bounds.specs.Listed.{Listed, Numbers, allowed, Lists, numbers}
-use Rattle.bounds.specs.Laws.Listed.{allowed-first, allowed-later}
+use Rattle.bounds.specs.Laws.Listed.{allowed_first, allowed_later}
 
 -- 2 to 13, and 29
 abbrev of_deck : ℕ → Bool
@@ -42,9 +42,9 @@ as_for P (got x n) f = tt
 as_for P (refused c q) f = f q
 
 -- a constant of k bytes is refused at its start, what stands behind it k bytes further on
-as-fixed : {B : Type 0} (P : Fault → ℕ → Type 0) (k v : ℕ) (c : Fault) (b : Format B) (s : List ℕ) → P Fault.Cut 0 → P c 0 → RefusedAs (λ d q. P d (k + q)) (b.read (drop k s)) → RefusedAs P ((fixed k v c then b).read s)
+as_fixed : {B : Type 0} (P : Fault → ℕ → Type 0) (k v : ℕ) (c : Fault) (b : Format B) (s : List ℕ) → P Fault.Cut 0 → P c 0 → RefusedAs (λ d q. P d (k + q)) (b.read (drop k s)) → RefusedAs P ((fixed k v c then b).read s)
 unfolding RefusedAs ◌then◌ seq via pair pair_read and_then mapped shift fixed judged judge_of judge number number_read pick
-as-fixed {B} P k v c b s cut wrong f = long (leb k (length s))
+as_fixed {B} P k v c b s cut wrong f = long (leb k (length s))
   where
     on : (a : Answer B) → RefusedAs (λ d q. P d (k + q)) a → RefusedAs P (mapped (λ (p : Unit {0} × B). p.1) (shift k (mapped (λ y. (tt, y)) a)))
     on (got y n) h = tt
@@ -59,9 +59,9 @@ as-fixed {B} P k v c b s cut wrong f = long (leb k (length s))
     long false = cut
 
 -- a number that is judged is refused at its start
-as-judged : (P : Fault → ℕ → Type 0) (k : ℕ) (ok : ℕ → Bool) (c : Fault) (s : List ℕ) → P Fault.Cut 0 → P c 0 → RefusedAs P ((judged ok c (number k)).read s)
+as_judged : (P : Fault → ℕ → Type 0) (k : ℕ) (ok : ℕ → Bool) (c : Fault) (s : List ℕ) → P Fault.Cut 0 → P c 0 → RefusedAs P ((judged ok c (number k)).read s)
 unfolding RefusedAs judged judge_of judge number number_read pick
-as-judged P k ok c s cut wrong = long (leb k (length s))
+as_judged P k ok c s cut wrong = long (leb k (length s))
   where
     right : (t : Bool) → RefusedAs P (judge c t (value (take k s)) k)
     right true = tt
@@ -72,48 +72,48 @@ as-judged P k ok c s cut wrong = long (leb k (length s))
     long false = cut
 
 -- 4 at 0 and 5 at 3, and nothing behind the version gives them
-version-told : (s : List ℕ) → RefusedAs Told (version.read s)
+version_told : (s : List ℕ) → RefusedAs Told (version.read s)
 unfolding version bytes mark value within
-version-told s = as-fixed Told 3 _ Fault.Mark _ s (refl, λ h. h) (refl, λ h. refl) (as-judged (λ c q. Told c (3 + q)) 2 _ Fault.Version (drop 3 s) (refl, λ h. h) (refl, λ h. refl))
+version_told s = as_fixed Told 3 _ Fault.Mark _ s (refl, λ h. h) (refl, λ h. refl) (as_judged (λ c q. Told c (3 + q)) 2 _ Fault.Version (drop 3 s) (refl, λ h. h) (refl, λ h. refl))
 
 -- at whatever place
 abbrev Always : Fault → Type 0
 Always c = (q : ℕ) → Told c q
 
-rules-told : (p : Product) (v : ℕ) → Gives Always (rule_list p v)
+rules_told : (p : Product) (v : ℕ) → Gives Always (rule_list p v)
 unfolding rule_list within
-rules-told p v =
-    gives-counted Always rule_count _ _ (gives-count Always (λ q. (refl, λ h. h)) (λ q. (refl, λ h. h)) (λ q. (refl, λ h. h)) (λ q. (refl, λ h. h)) (λ q. (refl, λ h. h)) 2 0 256)
-    (gives-indexed Always (wide v) 7 Fault.Offset (rule p) (λ q. (refl, λ h. h)) (gives-rule Always (λ q. (refl, λ h. h)) (λ q. (refl, λ h. h)) (λ q. (refl, λ h. h)) (λ q. (refl, λ h. h)) (λ q. (refl, λ h. h)) (λ q. (refl, λ h. h)) (λ q. (refl, λ h. h)) (λ q. (refl, λ h. h)) p) (λ q. (refl, λ h. h)))
+rules_told p v =
+    gives_counted Always rule_count _ _ (gives_count Always (λ q. (refl, λ h. h)) (λ q. (refl, λ h. h)) (λ q. (refl, λ h. h)) (λ q. (refl, λ h. h)) (λ q. (refl, λ h. h)) 2 0 256)
+    (gives_indexed Always (wide v) 7 Fault.Offset (rule p) (λ q. (refl, λ h. h)) (gives_rule Always (λ q. (refl, λ h. h)) (λ q. (refl, λ h. h)) (λ q. (refl, λ h. h)) (λ q. (refl, λ h. h)) (λ q. (refl, λ h. h)) (λ q. (refl, λ h. h)) (λ q. (refl, λ h. h)) (λ q. (refl, λ h. h)) p) (λ q. (refl, λ h. h)))
 
-deck-told : (p : Product) (s : List ℕ) → RefusedAs Told ((deck p).read s)
+deck_told : (p : Product) (s : List ℕ) → RefusedAs Told ((deck p).read s)
 unfolding deck seq via pair pair_read and_then mapped Gives RefusedAs
-deck-told p s = go (version.read s) (version-told s)
+deck_told p s = go (version.read s) (version_told s)
   where
     go : (a : Answer ℕ) → RefusedAs Told a → RefusedAs Told (mapped (λ (w : ℕ × List Rule). deck_of w.0 w.1) (and_then a (λ v k. mapped (λ rs. (v, rs)) ((rule_list p v).read (drop k s)))))
-    go (got v k) h = as_for Told _ (for-mapped Always _ _ (for-shift Always k _ (for-mapped Always _ _ (rules-told p v (drop k s)))))
+    go (got v k) h = as_for Told _ (for_mapped Always _ _ (for_shift Always k _ (for_mapped Always _ _ (rules_told p v (drop k s)))))
     go (refused c q) h = h
 
-whole-told : {A : Type 0} (n : ℕ) (a : Answer A) → RefusedAs Told a → RefusedAs Told (whole n a)
+whole_told : {A : Type 0} (n : ℕ) (a : Answer A) → RefusedAs Told a → RefusedAs Told (whole n a)
 unfolding RefusedAs whole pick within
-whole-told n (got x m) h = go (eqb m n)
+whole_told n (got x m) h = go (eqb m n)
   where
     go : (b : Bool) → RefusedAs Told (pick b (got x m) (refused Fault.Over m))
     go true = tt
     go false = (refl, λ h. h)
-whole-told n (refused c q) h = h
+whole_told n (refused c q) h = h
 
 -- 2 to 13 and 29, at a place of the table
 abbrev pub Faulty : Fault → ℕ → Type 0
 Faulty c q = (of_deck (number_of c) ≡ true) × ((q ≤ 60000) × Listed c q)
 
 -- they are among the rows that say so, and so are they plus 32
-pub deck-allowed : (low add : ℕ) (rows : List Numbers) (n m q : ℕ) → low ≤ 2 + add → m ≡ n + add → of_deck n ≡ true → q ≤ 60000 → allowed (numbers low (13 + add) 60000 ∷ numbers (29 + add) (29 + add) 60000 ∷ rows) m q ≡ true
-deck-allowed low add rows n m q l e f h = go (within 2 13 n) refl f
+pub deck_allowed : (low add : ℕ) (rows : List Numbers) (n m q : ℕ) → low ≤ 2 + add → m ≡ n + add → of_deck n ≡ true → q ≤ 60000 → allowed (numbers low (13 + add) 60000 ∷ numbers (29 + add) (29 + add) 60000 ∷ rows) m q ≡ true
+deck_allowed low add rows n m q l e f h = go (within 2 13 n) refl f
   where
     go : (b : Bool) → within 2 13 n ≡ b → (b || eqb n 29) ≡ true → allowed (numbers low (13 + add) 60000 ∷ numbers (29 + add) (29 + add) 60000 ∷ rows) m q ≡ true
-    go true w f = let i = within-is 2 13 n w in allowed-first low (13 + add) 60000 _ m q (omega arith) (omega arith) h
-    go false w f = let i = eqb-true n 29 f in allowed-later _ _ m q (allowed-first (29 + add) (29 + add) 60000 rows m q (omega arith) (omega arith) h)
+    go true w f = let i = within_is 2 13 n w in allowed_first low (13 + add) 60000 _ m q (omega arith) (omega arith) h
+    go false w f = let i = eqb-true n 29 f in allowed_later _ _ m q (allowed_first (29 + add) (29 + add) 60000 rows m q (omega arith) (omega arith) h)
 
 pub deck_faulty : (p : Product) (s : List ℕ) → RefusedAs Faulty (read_as p s)
 unfolding read_as RefusedAs end_of pick within
@@ -126,18 +126,18 @@ deck_faulty p s = long (leb (length s) 60000) refl
     long : (b : Bool) → leb (length s) 60000 ≡ b → RefusedAs Faulty (pick b (whole (length s) ((deck p).read s)) (refused Fault.Long 60000))
     long true l =
         let z = leb-true (length s) 60000 l in
-        let w = whole-end (length s) ((deck p).read s) in
+        let w = whole_end (length s) ((deck p).read s) in
         let i = (deck p).inside s in
-        read (whole (length s) ((deck p).read s)) (whole-told (length s) ((deck p).read s) (deck-told p s)) (omega arith)
+        read (whole (length s) ((deck p).read s)) (whole_told (length s) ((deck p).read s) (deck_told p s)) (omega arith)
     long false l = (refl, (omega arith, refl))
 
 -- a call that begins with a deck gives 1 to 13 and 29, and then its own
 module _ (rows : List Numbers) where
-  pub edition-listed : Lists (deck_numbers rows) (Outcome.No Fault.Edition 0)
-  edition-listed = (allowed-first 1 13 60000 _ 1 0 (omega arith) (omega arith) (omega arith), refl)
+  pub edition_listed : Lists (deck_numbers rows) (Outcome.No Fault.Edition 0)
+  edition_listed = (allowed_first 1 13 60000 _ 1 0 (omega arith) (omega arith) (omega arith), refl)
 
-  pub faulty-listed : (c : Fault) (q : ℕ) → Faulty c q → Lists (deck_numbers rows) (Outcome.No c q)
-  faulty-listed c q f = (deck-allowed 1 0 rows (number_of c) (number_of c) q (omega arith) (omega arith) f.0 f.1.0, f.1.1)
+  pub faulty_listed : (c : Fault) (q : ℕ) → Faulty c q → Lists (deck_numbers rows) (Outcome.No c q)
+  faulty_listed c q f = (deck_allowed 1 0 rows (number_of c) (number_of c) q (omega arith) (omega arith) f.0 f.1.0, f.1.1)
 
 abbrev pub ElementListed : Fault → ℕ → Type 0
 ElementListed c q = Lists element_numbers (Outcome.Given c q)
@@ -145,16 +145,16 @@ ElementListed c q = Lists element_numbers (Outcome.Given c q)
 abbrev Near : Fault → Type 0
 Near c = (q : ℕ) → q ≤ most → ElementListed c q
 
-data-listed : (k : Kind) → Gives Near (data_of k)
+data_listed : (k : Kind) → Gives Near (data_of k)
 unfolding allowed within
-data-listed k = gives_data Near (λ q h. (rw (le-leb q most h), omega arith)) (λ q h. (rw (le-leb q most h), omega arith)) (λ q h. (rw (le-leb q most h), omega arith)) (λ q h. (rw (le-leb q most h), omega arith)) (λ q h. (rw (le-leb q most h), omega arith)) k
+data_listed k = gives_data Near (λ q h. (rw (le-leb q most h), omega arith)) (λ q h. (rw (le-leb q most h), omega arith)) (λ q h. (rw (le-leb q most h), omega arith)) (λ q h. (rw (le-leb q most h), omega arith)) (λ q h. (rw (le-leb q most h), omega arith)) k
 
-pub element-listed : (p : Product) (id : ℕ) (s : List ℕ) → Bytes s → RefusedAs ElementListed (given p id s)
+pub element_listed_lem : (p : Product) (id : ℕ) (s : List ℕ) → Bytes s → RefusedAs ElementListed (given p id s)
 unfolding given Gives allowed within end_of
-element-listed p id s b = refused_as ElementListed (given p id s) (λ c q e. go c q e (row_of p id) refl e)
+element_listed_lem p id s b = refused_as ElementListed (given p id s) (λ c q e. go c q e (row_of p id) refl e)
   where
     go : (c : Fault) (q : ℕ) → given p id s ≡ refused c q → (r : Row) → row_of p id ≡ r → given_by r id s ≡ refused c q → ElementListed c q
     go c q e (Row.Is k) h z =
-        let n : Near c = for-refused Near (for-mapped Near (with_data id) (whole (length s) ((data_of k).read s)) (for-whole Near (length s) ((data_of k).read s) (λ q h. (rw (le-leb q most h), omega arith)) (data-listed k s))) z in
-        n q (rw e at (given-end p id s b))
+        let n : Near c = for_refused Near (for_mapped Near (with_data id) (whole (length s) ((data_of k).read s)) (for_whole Near (length s) ((data_of k).read s) (λ q h. (rw (le-leb q most h), omega arith)) (data_listed k s))) z in
+        n q (rw e at (given_end p id s b))
     go c q e (Row.No d o) h z = row_refuses ElementListed (refl, omega arith) (refl, omega arith) p id (h ∙ (let w : Row.No d o ≡ Row.No c q = cc in w))

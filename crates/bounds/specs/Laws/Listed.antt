@@ -7,16 +7,16 @@ use Rattle.format.specs.declared.Outcome.{Outcome}
 use Rattle.format.specs.declared.Outcome.TheVariants as Outcome
 use Rattle.format.specs.Fault.{place_of}
 use Rattle.format.specs.ReadWrite.{within}
-use Rattle.format.specs.Laws.ReadWrite.{within-fits}
+use Rattle.format.specs.Laws.ReadWrite.{within_fits}
 use Rattle.bounds.specs.Listed.{Numbers, Listed, allowed, numbers, exactly, Lists}
 
-pub allowed-first : (low high last : ℕ) (rows : List Numbers) (n q : ℕ) → low ≤ n → n ≤ high → q ≤ last → allowed (numbers low high last ∷ rows) n q ≡ true
+pub allowed_first : (low high last : ℕ) (rows : List Numbers) (n q : ℕ) → low ≤ n → n ≤ high → q ≤ last → allowed (numbers low high last ∷ rows) n q ≡ true
 unfolding allowed
-allowed-first low high last rows n q f g h = rw (within-fits low high n f g, le-leb q last h)
+allowed_first low high last rows n q f g h = rw (within_fits low high n f g, le-leb q last h)
 
-pub allowed-later : (row : Numbers) (rows : List Numbers) (n q : ℕ) → allowed rows n q ≡ true → allowed (row ∷ rows) n q ≡ true
+pub allowed_later : (row : Numbers) (rows : List Numbers) (n q : ℕ) → allowed rows n q ≡ true → allowed (row ∷ rows) n q ≡ true
 unfolding allowed
-allowed-later row rows n q e = by row
+allowed_later row rows n q e = by row
   where
     go : (b : Bool) → (b || allowed rows n q) ≡ true
     go true = refl
@@ -63,7 +63,7 @@ listed_small Fault.Full q h = omega arith
 listed_small Fault.Last q h = omega arith
 listed_small Fault.Offset q h = h
 
-pub within-small : (rows : List Numbers) (last : ℕ) (o : Outcome) → Within rows last o → last ≤ 60000 → place_of o ≤ 60000
-within-small rows last (Outcome.Done n) f h = omega arith
-within-small rows last (Outcome.No c q) f h = listed_small c q f.1
-within-small rows last (Outcome.Given c q) f h = listed_small c q f.1
+pub within_small : (rows : List Numbers) (last : ℕ) (o : Outcome) → Within rows last o → last ≤ 60000 → place_of o ≤ 60000
+within_small rows last (Outcome.Done n) f h = omega arith
+within_small rows last (Outcome.No c q) f h = listed_small c q f.1
+within_small rows last (Outcome.Given c q) f h = listed_small c q f.1

@@ -16,7 +16,7 @@ use Rattle.element.specs.Element.{Element}
 use Rattle.rule.specs.Rule.{Rule}
 use Rattle.deck.specs.Deck.{Deck, read_as}
 use Rattle.deck.specs.Written.{deck_of, written}
-use Rattle.room.specs.Laws.Room.{room-judged}
+use Rattle.room.specs.Laws.Room.{room_judged}
 use Rattle.given.specs.Given.{given}
 use Rattle.plan.specs.Edit.{Edit, switch, rename, remove, insert, add_rule, add_element, add_word, Plan, become, refuse, refuse_given, at_rule, at_copy, at_second, at_last, at_list, unless_full, if_text, at_given, edited, in_version, if_done, in_room, plan, plan_by, planned}
 use Rattle.bounds.specs.Calls.{judges, owns, Gift, given_to, nothing, a_deck, an_element}
@@ -48,9 +48,9 @@ unfolding RefusedAs
 refused_as G (got x n) f = tt
 refused_as G (refused c q) f = f c q refl
 
-pub as-refused : {A : Type 0} (G : Fault → ℕ → Type 0) {a : Answer A} {c : Fault} {q : ℕ} → RefusedAs G a → a ≡ refused c q → G c q
+pub as_refused : {A : Type 0} (G : Fault → ℕ → Type 0) {a : Answer A} {c : Fault} {q : ℕ} → RefusedAs G a → a ≡ refused c q → G c q
 unfolding RefusedAs
-as-refused G f e = rw e at f
+as_refused G f e = rw e at f
 
 abbrev pub OfGift : (Fault → ℕ → Type 0) → Product → Gift → Type 0
 OfGift G p nothing = Unit {0}
@@ -58,33 +58,33 @@ OfGift G p (a_deck s) = RefusedAs G (read_as p s)
 OfGift G p (an_element id s) = RefusedAs G (given p id s)
 
 module _ (N G : Fault → ℕ → Type 0) where
-  only-pick : (b : Bool) (q : Plan (List Rule)) (c : Fault) (at : ℕ) → N c at → Only Any N G q → Only Any N G (pick b q (refuse c at))
+  only_pick : (b : Bool) (q : Plan (List Rule)) (c : Fault) (at : ℕ) → N c at → Only Any N G q → Only Any N G (pick b q (refuse c at))
   unfolding pick
-  only-pick true q c at h f = f
-  only-pick false q c at h f = h
+  only_pick true q c at h f = f
+  only_pick false q c at h f = h
 
-  only-text : (s : List ℕ) (q : Plan (List Rule)) → N Fault.Text 0 → Only Any N G q → Only Any N G (if_text s q)
+  only_text : (s : List ℕ) (q : Plan (List Rule)) → N Fault.Text 0 → Only Any N G q → Only Any N G (if_text s q)
   unfolding if_text
-  only-text s q h f = only-pick _ q Fault.Text 0 h f
+  only_text s q h f = only_pick _ q Fault.Text 0 h f
 
-  only-full : (n : ℕ) (q : Plan (List Rule)) → N Fault.Full 0 → Only Any N G q → Only Any N G (unless_full n q)
+  only_full : (n : ℕ) (q : Plan (List Rule)) → N Fault.Full 0 → Only Any N G q → Only Any N G (unless_full n q)
   unfolding unless_full
-  only-full n q h f = only-pick _ q Fault.Full 0 h f
+  only_full n q h f = only_pick _ q Fault.Full 0 h f
 
-  only-rule : (ys : List Rule) (f : Rule → List Rule → Plan (List Rule)) → N Fault.Absent 0 → ((r : Rule) (later : List Rule) → Only Any N G (f r later)) → Only Any N G (at_rule ys f)
+  only_rule : (ys : List Rule) (f : Rule → List Rule → Plan (List Rule)) → N Fault.Absent 0 → ((r : Rule) (later : List Rule) → Only Any N G (f r later)) → Only Any N G (at_rule ys f)
   unfolding at_rule
-  only-rule [] f h g = h
-  only-rule (r ∷ later) f h g = g r later
+  only_rule [] f h g = h
+  only_rule (r ∷ later) f h g = g r later
 
   only_copy : (ys : List Rule) (f : Rule → Plan (List Rule)) → N Fault.Absent 1 → ((r : Rule) → Only Any N G (f r)) → Only Any N G (at_copy ys f)
   unfolding at_copy
   only_copy [] f h g = h
   only_copy (r ∷ later) f h g = g r
 
-  only-last : (ys : List Rule) (f : Rule → Plan (List Rule)) → N Fault.Last 0 → ((r : Rule) → Only Any N G (f r)) → Only Any N G (at_last ys f)
+  only_last : (ys : List Rule) (f : Rule → Plan (List Rule)) → N Fault.Last 0 → ((r : Rule) → Only Any N G (f r)) → Only Any N G (at_last ys f)
   unfolding at_last
-  only-last [] f h g = h
-  only-last (r ∷ later) f h g = g r
+  only_last [] f h g = h
+  only_last (r ∷ later) f h g = g r
 
   only_list : (ys : List Element) (f : ℕ → List Text → Plan (List Rule)) → N Fault.Last 0 → ((id : ℕ) (ws : List Text) → Only Any N G (f id ws)) → Only Any N G (at_list ys f)
   unfolding at_list
@@ -94,39 +94,39 @@ module _ (N G : Fault → ℕ → Type 0) where
   only_list ((id, sizes a b) ∷ later) f h g = h
   only_list ((id, span a b) ∷ later) f h g = h
 
-  only-given : (a : Answer Element) (f : Element → Plan (List Rule)) → RefusedAs G a → ((x : Element) → Only Any N G (f x)) → Only Any N G (at_given a f)
+  only_given : (a : Answer Element) (f : Element → Plan (List Rule)) → RefusedAs G a → ((x : Element) → Only Any N G (f x)) → Only Any N G (at_given a f)
   unfolding at_given RefusedAs
-  only-given (got x n) f h g = g x
-  only-given (refused c q) f h g = h
+  only_given (got x n) f h g = g x
+  only_given (refused c q) f h g = h
 
-  only-second : (a : Answer Deck) (f : List Rule → Plan (List Rule)) → RefusedAs G a → ((qs : List Rule) → Only Any N G (f qs)) → Only Any N G (at_second a f)
+  only_second : (a : Answer Deck) (f : List Rule → Plan (List Rule)) → RefusedAs G a → ((qs : List Rule) → Only Any N G (f qs)) → Only Any N G (at_second a f)
   unfolding at_second RefusedAs
-  only-second (got k n) f h g = g k.rules
-  only-second (refused c q) f h g = h
+  only_second (got k n) f h g = g k.rules
+  only_second (refused c q) f h g = h
 
-  only-edited : (p : Product) (e : Edit) (rs : List Rule) → Each N (judges e) → OfGift G p (given_to e) → Only Any N G (edited p e rs)
+  only_edited : (p : Product) (e : Edit) (rs : List Rule) → Each N (judges e) → OfGift G p (given_to e) → Only Any N G (edited p e rs)
   unfolding edited Each
-  only-edited p (switch k on) rs j h = only-rule _ _ j.0 (λ r later. tt)
-  only-edited p (rename k name) rs j h = only-rule _ _ j.0 (λ r later. only-text name _ j.1.0 tt)
-  only-edited p (remove k) rs j h = only-rule _ _ j.0 (λ r later. tt)
-  only-edited p (insert k second i) rs j h = only-second _ _ h (λ qs. only-pick _ _ Fault.Absent 0 j.0 (only_copy _ _ j.1.0 (λ q. tt)))
-  only-edited p (add_rule name f id s) rs j h = only-text name _ j.0 (only-given _ _ h (λ x. tt))
-  only-edited p (add_element id s) rs j h = only-last _ _ j.0 (λ r. only-full _ _ j.1.0 (only-given _ _ h (λ x. tt)))
-  only-edited p (add_word word) rs j h = only-last _ _ j.0 (λ r. only_list _ _ j.0 (λ id ws. only-full _ _ j.1.0 (only-text word _ j.1.1.0 tt)))
+  only_edited p (switch k on) rs j h = only_rule _ _ j.0 (λ r later. tt)
+  only_edited p (rename k name) rs j h = only_rule _ _ j.0 (λ r later. only_text name _ j.1.0 tt)
+  only_edited p (remove k) rs j h = only_rule _ _ j.0 (λ r later. tt)
+  only_edited p (insert k second i) rs j h = only_second _ _ h (λ qs. only_pick _ _ Fault.Absent 0 j.0 (only_copy _ _ j.1.0 (λ q. tt)))
+  only_edited p (add_rule name f id s) rs j h = only_text name _ j.0 (only_given _ _ h (λ x. tt))
+  only_edited p (add_element id s) rs j h = only_last _ _ j.0 (λ r. only_full _ _ j.1.0 (only_given _ _ h (λ x. tt)))
+  only_edited p (add_word word) rs j h = only_last _ _ j.0 (λ r. only_list _ _ j.0 (λ id ws. only_full _ _ j.1.0 (only_text word _ j.1.1.0 tt)))
 
-  only-room : (e : Edit) → Each N (owns e) → (cap v : ℕ) (q : Plan (List Rule)) → Only Any N G q → Only NotLarge N G (in_room cap (in_version v q))
+  only_room : (e : Edit) → Each N (owns e) → (cap v : ℕ) (q : Plan (List Rule)) → Only Any N G q → Only NotLarge N G (in_room cap (in_version v q))
   unfolding Each
-  only-room e o cap v (become rs) f =
-      room-judged (length rs) (length (written v rs)) cap (λ r. Only NotLarge N G (if_done r (deck_of v rs))) (λ w. w.short) (λ l. o.1.1.0) (λ l. o.1.1.1.0) (λ l. o.1.1.1.1.0)
-  only-room e o cap v (refuse c q) f = f
-  only-room e o cap v (refuse_given c q) f = f
+  only_room e o cap v (become rs) f =
+      room_judged (length rs) (length (written v rs)) cap (λ r. Only NotLarge N G (if_done r (deck_of v rs))) (λ w. w.short) (λ l. o.1.1.0) (λ l. o.1.1.1.0) (λ l. o.1.1.1.1.0)
+  only_room e o cap v (refuse c q) f = f
+  only_room e o cap v (refuse_given c q) f = f
 
-  pub only-planned : (edition n : ℕ) (d : List ℕ) (e : Edit) → Each N (owns e) → ((p : Product) → edition_of edition ≡ Edition.Of p → RefusedAs N (read_as p (take n d)) × OfGift G p (given_to e)) → Only NotLarge N G (planned edition n d e)
+  pub only_planned : (edition n : ℕ) (d : List ℕ) (e : Edit) → Each N (owns e) → ((p : Product) → edition_of edition ≡ Edition.Of p → RefusedAs N (read_as p (take n d)) × OfGift G p (given_to e)) → Only NotLarge N G (planned edition n d e)
   unfolding planned pick RefusedAs Each
-  only-planned edition n d e o w = by (edition_of edition) refl
+  only_planned edition n d e o w = by (edition_of edition) refl
     where
       read : (p : Product) (a : Answer Deck) → RefusedAs N a × OfGift G p (given_to e) → Only NotLarge N G (plan p (length d) e a)
-      read p (got k m) f = only-room e o (length d) k.version (edited p e k.rules) (only-edited p e k.rules o.1.1.1.1.1 f.1)
+      read p (got k m) f = only_room e o (length d) k.version (edited p e k.rules) (only_edited p e k.rules o.1.1.1.1.1 f.1)
       read p (refused c q) f = f.0
 
       stated : (p : Product) (t : Bool) → edition_of edition ≡ Edition.Of p → Only NotLarge N G (pick t (plan p (length d) e (read_as p (take n d))) (refuse Fault.Stated 0))

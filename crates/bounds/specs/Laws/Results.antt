@@ -37,15 +37,15 @@ use Rattle.given.specs.Given.{given, given_by, with_data}
 use Rattle.bounds.specs.Listed.{Numbers, exactly, allowed, Lists}
 use Rattle.bounds.specs.Calls.{element_numbers, view_numbers, kind_numbers, moment_numbers, value_numbers, put_numbers}
 use Rattle.bounds.specs.Laws.Data.{row_refuses}
-use Rattle.bounds.specs.Laws.Refused.{as-refused}
-use Rattle.bounds.specs.Laws.Listed.{Within, within-small, allowed-later}
-use Rattle.bounds.specs.Laws.Calls.{name-listed, word-listed, fixed-listed}
-use Rattle.bounds.specs.Laws.Faulty.{ElementListed, element-listed}
+use Rattle.bounds.specs.Laws.Refused.{as_refused}
+use Rattle.bounds.specs.Laws.Listed.{Within, within_small, allowed_later}
+use Rattle.bounds.specs.Laws.Calls.{name_listed, word_listed, fixed_listed}
+use Rattle.bounds.specs.Laws.Faulty.{ElementListed, element_listed_lem}
 
 -- "An identifier alone .. 1, 9 or 10 at 0"
-pub kind-listed : (edition id : ℕ) → Within kind_numbers 0 (kind_of edition id).0
+pub kind_listed : (edition id : ℕ) → Within kind_numbers 0 (kind_of edition id).0
 unfolding kind_of row_by allowed
-kind-listed edition id = by (edition_of edition)
+kind_listed edition id = by (edition_of edition)
   where
     row : (p : Product) (r : Row) → row_of p id ≡ r → Within kind_numbers 0 (kind_says r).0
     row p (Row.Is k) e = omega arith
@@ -56,21 +56,21 @@ kind-listed edition id = by (edition_of edition)
     by Edition.Unknown = (refl, refl)
 
 -- "a lone date answers 11 at 0"
-pub moment-listed : (bits : ℕ) (x : Said) → SaysBy (accepted bits) bits x → Within moment_numbers 0 x.0
+pub moment_listed : (bits : ℕ) (x : Said) → SaysBy (accepted bits) bits x → Within moment_numbers 0 x.0
 unfolding allowed
-moment-listed bits x = go (accepted bits)
+moment_listed bits x = go (accepted bits)
   where
     go : (b : Bool) → SaysBy b bits x → Within moment_numbers 0 x.0
     go true f = rw f.1.1 (omega arith)
     go false f = rw f (refl, omega arith)
 
 -- "Turning lone element data into a value takes an edition and answers 1 first, then as for a given element"
-pub value-listed : (edition id : ℕ) (s : List ℕ) → Bytes s → Within value_numbers 0 (value_answer edition id s).0
+pub value_listed : (edition id : ℕ) (s : List ℕ) → Bytes s → Within value_numbers 0 (value_answer edition id s).0
 unfolding value_of from_kind given mapped allowed
-value-listed edition id s b = by (edition_of edition)
+value_listed edition id s b = by (edition_of edition)
   where
     listed : (p : Product) (c : Fault) (q : ℕ) → given p id s ≡ refused c q → Lists value_numbers (Outcome.Given c q)
-    listed p c q e = let f = as-refused ElementListed (element-listed p id s b) e in (allowed-later (exactly 1 0) element_numbers (number_of c + 32) q f.0, f.1)
+    listed p c q e = let f = as_refused ElementListed (element_listed_lem p id s b) e in (allowed_later (exactly 1 0) element_numbers (number_of c + 32) q f.0, f.1)
 
     read : (p : Product) (k : Kind) (a : Answer Data) → given p id s ≡ mapped (with_data id) a → Within value_numbers 0 (value_says (from_data k id a)).0
     read p k (got x n) e = omega arith
@@ -89,42 +89,42 @@ abbrev Lacks : Fitted → Type 0
 Lacks (holds d) = words_of d ≡ []
 Lacks (lacks c q) = Lists put_numbers (Outcome.Given c q)
 
-lacks-pick : (b : Bool) (x y : Fitted) → Lacks x → Lacks y → Lacks (pick b x y)
+lacks_pick : (b : Bool) (x y : Fitted) → Lacks x → Lacks y → Lacks (pick b x y)
 unfolding pick
-lacks-pick true x y f g = f
-lacks-pick false x y f g = g
+lacks_pick true x y f g = f
+lacks_pick false x y f g = g
 
-lacks-value : (v : Value) → Lacks (from_value v)
+lacks_value : (v : Value) → Lacks (from_value v)
 unfolding from_span allowed within
-lacks-value Value.Marker = refl
-lacks-value (Value.Simple n) = refl
-lacks-value (Value.Words n) = (refl, omega arith)
-lacks-value (Value.Size a b) = refl
-lacks-value (Value.Dates v) = lacks-pick _ _ _ (lacks-pick _ _ _ refl (refl, omega arith)) (refl, omega arith)
+lacks_value Value.Marker = refl
+lacks_value (Value.Simple n) = refl
+lacks_value (Value.Words n) = (refl, omega arith)
+lacks_value (Value.Size a b) = refl
+lacks_value (Value.Dates v) = lacks_pick _ _ _ (lacks_pick _ _ _ refl (refl, omega arith)) (refl, omega arith)
 
 -- data without words
-data-small : (k : Kind) (d : Data) → words_of d ≡ [] → length ((data_of k).write d) ≤ 40
+data_small : (k : Kind) (d : Data) → words_of d ≡ [] → length ((data_of k).write d) ≤ 40
 unfolding marker_data simple_data word_data size_data date_data limit flag date one_zero fixed listed counted count each each_write ◌then◌ seq pair pair_write via judged number spelt
-data-small Kind.Marker d e = omega arith
-data-small (Kind.Simple r) d e = omega arith
-data-small Kind.WordList d e = rw e (omega arith)
-data-small (Kind.Size r) d e = omega arith
-data-small (Kind.Dates r) d e = omega arith
+data_small Kind.Marker d e = omega arith
+data_small (Kind.Simple r) d e = omega arith
+data_small Kind.WordList d e = rw e (omega arith)
+data_small (Kind.Size r) d e = omega arith
+data_small (Kind.Dates r) d e = omega arith
 
-pub put-listed : (edition id : ℕ) (v : Value) (room : ℕ) → Within put_numbers 40 (put_says (putting edition id v room))
+pub put_listed : (edition id : ℕ) (v : Value) (room : ℕ) → Within put_numbers 40 (put_says (putting edition id v room))
 unfolding putting plan_kind if_room put_says pick allowed within
-put-listed edition id v room = by (edition_of edition)
+put_listed edition id v room = by (edition_of edition)
   where
     roomy : (b : Bool) (bs : List ℕ) → length bs ≤ 40 → Within put_numbers 40 (put_says (pick b (write bs) (deny (Outcome.No Fault.Room 0))))
     roomy true bs h = h
     roomy false bs h = (refl, refl)
 
     fit : (k : Kind) (f : Fitted) → Lacks f → Within put_numbers 40 (put_says (plan_data (data_of k) room f))
-    fit k (holds d) w = roomy (leb (length ((data_of k).write d)) room) ((data_of k).write d) (data-small k d w)
+    fit k (holds d) w = roomy (leb (length ((data_of k).write d)) room) ((data_of k).write d) (data_small k d w)
     fit k (lacks c q) w = w
 
     row : (p : Product) (r : Row) → row_of p id ≡ r → Within put_numbers 40 (put_says (plan_row r id v room))
-    row p (Row.Is k) e = fit k (fitted k id v) (lacks-pick (is_of k id v) _ _ (lacks-value v) (refl, omega arith))
+    row p (Row.Is k) e = fit k (fitted k id v) (lacks_pick (is_of k id v) _ _ (lacks_value v) (refl, omega arith))
     row p (Row.No c q) e = row_refuses (λ c q. Lists put_numbers (Outcome.Given c q)) (refl, omega arith) (refl, omega arith) p id e
 
     by : (o : Edition) → Within put_numbers 40 (put_says (plan_edition o id v room))
@@ -133,31 +133,31 @@ put-listed edition id v room = by (edition_of edition)
 
 -- ---- so no place that they answer is above 60,000
 
-pub kind-small : (edition id : ℕ) → place_of (kind_of edition id).0 ≤ 60000
-kind-small edition id = within-small kind_numbers 0 (kind_of edition id).0 (kind-listed edition id) (omega arith)
+pub kind_small : (edition id : ℕ) → place_of (kind_of edition id).0 ≤ 60000
+kind_small edition id = within_small kind_numbers 0 (kind_of edition id).0 (kind_listed edition id) (omega arith)
 
-pub moment-small : (bits : ℕ) (x : Said) → SaysBy (accepted bits) bits x → place_of x.0 ≤ 60000
-moment-small bits x f = within-small moment_numbers 0 x.0 (moment-listed bits x f) (omega arith)
+pub moment_small : (bits : ℕ) (x : Said) → SaysBy (accepted bits) bits x → place_of x.0 ≤ 60000
+moment_small bits x f = within_small moment_numbers 0 x.0 (moment_listed bits x f) (omega arith)
 
-pub value-small : (edition id : ℕ) (s : List ℕ) → Bytes s → place_of (value_answer edition id s).0 ≤ 60000
-value-small edition id s b = within-small value_numbers 0 (value_answer edition id s).0 (value-listed edition id s b) (omega arith)
+pub value_small : (edition id : ℕ) (s : List ℕ) → Bytes s → place_of (value_answer edition id s).0 ≤ 60000
+value_small edition id s b = within_small value_numbers 0 (value_answer edition id s).0 (value_listed edition id s b) (omega arith)
 
 pub put_small : (edition id : ℕ) (v : Value) (room : ℕ) → place_of (put_says (putting edition id v room)) ≤ 60000
-put_small edition id v room = within-small put_numbers 40 (put_says (putting edition id v room)) (put-listed edition id v room) (omega arith)
+put_small edition id v room = within_small put_numbers 40 (put_says (putting edition id v room)) (put_listed edition id v room) (omega arith)
 
 part_small : (rows : List Numbers) (v : View) → Lists rows (view_says v) → place_of (part_says v).0 ≤ 60000
 part_small rows (View.At a n form) f = omega arith
-part_small rows (View.No c q) f = within-small rows 0 (Outcome.No c q) f (omega arith)
+part_small rows (View.No c q) f = within_small rows 0 (Outcome.No c q) f (omega arith)
 
-pub name-part-small : (edition k : ℕ) (s : List ℕ) → place_of (part_says (name_view edition k s)).0 ≤ 60000
-name-part-small edition k s = part_small (view_numbers 0) (name_view edition k s) (name-listed edition k s)
+pub name_part_small : (edition k : ℕ) (s : List ℕ) → place_of (part_says (name_view edition k s)).0 ≤ 60000
+name_part_small edition k s = part_small (view_numbers 0) (name_view edition k s) (name_listed edition k s)
 
-pub word-part-small : (edition k e w : ℕ) (s : List ℕ) → place_of (part_says (word_view edition k e w s)).0 ≤ 60000
-word-part-small edition k e w s = part_small (view_numbers 2) (word_view edition k e w s) (word-listed edition k e w s)
+pub word_part_small : (edition k e w : ℕ) (s : List ℕ) → place_of (part_says (word_view edition k e w s)).0 ≤ 60000
+word_part_small edition k e w s = part_small (view_numbers 2) (word_view edition k e w s) (word_listed edition k e w s)
 
-pub fields-small : (edition k : ℕ) (s : List ℕ) → place_of (fields_answer edition k s).0 ≤ 60000
-fields-small edition k s = go (fixed_fields edition k s) (fixed-listed edition k s)
+pub fields_small : (edition k : ℕ) (s : List ℕ) → place_of (fields_answer edition k s).0 ≤ 60000
+fields_small edition k s = go (fixed_fields edition k s) (fixed_listed edition k s)
   where
     go : (v : Fielded) → Lists (view_numbers 0) (fields_say v).0 → place_of (fields_say v).0 ≤ 60000
     go (Fielded.Is x) f = omega arith
-    go (Fielded.No c q) f = within-small (view_numbers 0) 0 (Outcome.No c q) f (omega arith)
+    go (Fielded.No c q) f = within_small (view_numbers 0) 0 (Outcome.No c q) f (omega arith)

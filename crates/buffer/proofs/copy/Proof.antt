@@ -4,7 +4,7 @@ use mathlib.Core.Path.{◌≡◌, refl}
 use lib.ListN.{length, drop, length-set}
 use borrow.Author.Rules.{rules}
 use Rattle.buffer.specs.Laid.{put}
-use Rattle.buffer.proofs.Loops.{copy-next, copy-last}
+use Rattle.buffer.proofs.Loops.{copy_next, copy_last}
 use Rattle.buffer.proofs.copy.Statement.{statement}
 use Rattle.buffer.proofs.copy.Tie as tie
 
@@ -18,10 +18,10 @@ loop-holds : tie.Need-loop-init invariant-loop decreases-loop
 loop-holds c = (refl, (refl, omega arith))
 
 loop-again : tie.Need-loop-preserved invariant-loop decreases-loop
-loop-again c = (copy-next _ _ _ c.before.before.loop.invariant.0 (omega arith) (omega arith), (simp length-set c.before.before.loop.invariant.1.0, omega arith))
+loop-again c = (copy_next _ _ _ c.before.before.loop.invariant.0 (omega arith) (omega arith), (simp length-set c.before.before.loop.invariant.1.0, omega arith))
 
 returns : tie.Need-returns invariant-loop decreases-loop
-returns c = copy-last _ _ _ c.before.loop.invariant.0 (omega arith)
+returns c = copy_last _ _ _ c.before.loop.invariant.0 (omega arith)
 
 pub copy_spec : {M : Type 1} → statement M
 copy_spec =

@@ -1,19 +1,19 @@
 use native.Mathlib.Omega.{arith}
-use Rattle.format.specs.Laws.ReadWrite.{length-spelt}
+use Rattle.format.specs.Laws.ReadWrite.{length_spelt}
 use Rattle.buffer.specs.Laws.Laid.{put_out}
-use Rattle.buffer.proofs.Parts.{put-tail}
+use Rattle.buffer.proofs.Parts.{put_tail}
 use borrow.Author.Rules.{rules}
 use Rattle.buffer.proofs.put_number.Statement.{statement}
 use Rattle.buffer.proofs.put_number.Tie as tie
 
 returns : tie.Need-returns
-returns c = put_out _ _ _ (simp length-spelt (λ h. omega arith))
+returns c = put_out _ _ _ (simp length_spelt (λ h. omega arith))
 
 returns-2 : tie.Need-returns-2
-returns-2 c = put_out _ _ _ (simp length-spelt (λ h. omega arith))
+returns-2 c = put_out _ _ _ (simp length_spelt (λ h. omega arith))
 
 returns-3 : tie.Need-returns-3
-returns-3 c = put-tail _ _ _ _ c.before.before.spell.ensures (simp length-spelt (omega arith))
+returns-3 c = put_tail _ _ _ _ c.before.before.spell.ensures (simp length_spelt (omega arith))
 
 pub put-number-spec : {M : Type 1} → statement M
 put-number-spec =

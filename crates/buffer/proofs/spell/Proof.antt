@@ -5,7 +5,7 @@ use lib.ListN.{length, length-set}
 use borrow.Author.Rules.{rules}
 use Rattle.format.specs.ReadWrite.{spelt}
 use Rattle.buffer.specs.Laid.{put}
-use Rattle.buffer.proofs.Loops.{spell-first, spell_next, spell_last}
+use Rattle.buffer.proofs.Loops.{spell_first, spell_next, spell_last}
 use Rattle.buffer.proofs.spell.Statement.{statement}
 use Rattle.buffer.proofs.spell.Tie as tie
 
@@ -16,7 +16,7 @@ abbrev decreases-loop : tie.decreases-loop
 decreases-loop p₀ k n i₀ rest₀ p i rest = k - i
 
 loop-holds : tie.Need-loop-init invariant-loop decreases-loop
-loop-holds c = (spell-first _ _ _, (refl, omega arith))
+loop-holds c = (spell_first _ _ _, (refl, omega arith))
 
 loop-again : tie.Need-loop-preserved invariant-loop decreases-loop
 loop-again c = (spell_next _ _ _ _ c.before.loop.invariant.0 (omega arith) (omega arith), (simp length-set c.before.loop.invariant.1.0, omega arith))

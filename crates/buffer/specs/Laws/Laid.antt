@@ -72,9 +72,9 @@ unfolding put
 put_cons y zs n bs = let e : suc n + length bs ≡ suc (n + length bs) = omega arith in rw e
 
 -- none, and one more
-pub put-none : (xs : List ℕ) (at : ℕ) → put xs at [] ≡ xs
+pub put_none : (xs : List ℕ) (at : ℕ) → put xs at [] ≡ xs
 unfolding put
-put-none xs at = rw add-zero (take-append-drop at xs)
+put_none xs at = rw add-zero (take-append-drop at xs)
 
 pub put_next : (xs : List ℕ) (at x : ℕ) (ys : List ℕ) → at < length xs → put (set xs at x) (suc at) ys ≡ put xs at (x ∷ ys)
 unfolding put
@@ -103,100 +103,100 @@ put_on xs at bs cs h =
     ∙ ap (λ (z : List ℕ). a ++ z) (sym (append_assoc bs cs (drop (at + length (bs ++ cs)) xs)))
 
 -- bytes put over as many that stand behind P and before R
-pub put-over : (P Q R s : List ℕ) {at : ℕ} → length P ≡ at → length Q ≡ length s → put (P ++ (Q ++ R)) at s ≡ P ++ (s ++ R)
+pub put_over : (P Q R s : List ℕ) {at : ℕ} → length P ≡ at → length Q ≡ length s → put (P ++ (Q ++ R)) at s ≡ P ++ (s ++ R)
 unfolding put
-put-over P Q R s {at} l q =
+put_over P Q R s {at} l q =
     let d : drop (length s) (Q ++ R) ≡ R = drop_at Q R (length s) q in
     rw (← l) (rw (take-append_seam, drop-append-add P (Q ++ R) (length s), d))
 
 -- ---- bytes moved
 
-pub length-down : (by : ℕ) (p : List ℕ) → length (down by p) ≡ length p
+pub length_down : (by : ℕ) (p : List ℕ) → length (down by p) ≡ length p
 unfolding down
-length-down by p = simp (length-append, length-drop) (omega arith)
+length_down by p = simp (length-append, length-drop) (omega arith)
 
 pub length_up : (by : ℕ) (p : List ℕ) → length (up by p) ≡ length p
 unfolding up
 length_up by p = simp (length-append, length-take) (omega arith)
 
 -- of two parts, one moved over the other
-pub down-two : (X M : List ℕ) {by : ℕ} → length X ≡ by → down by (X ++ M) ≡ M ++ drop (length M) (X ++ M)
+pub down_two : (X M : List ℕ) {by : ℕ} → length X ≡ by → down by (X ++ M) ≡ M ++ drop (length M) (X ++ M)
 unfolding down
-down-two X M {by} l =
+down_two X M {by} l =
     let k : length (X ++ M) - by ≡ length M = simp length-append (omega arith) in
     rw (drop_at X M by l, k)
 
-pub up-two : (M X : List ℕ) {by : ℕ} → length X ≡ by → up by (M ++ X) ≡ take by (M ++ X) ++ M
+pub up_two : (M X : List ℕ) {by : ℕ} → length X ≡ by → up by (M ++ X) ≡ take by (M ++ X) ++ M
 unfolding up
-up-two M X {by} l =
+up_two M X {by} l =
     let k : length (M ++ X) - by ≡ length M = simp length-append (omega arith) in
     rw (k, take-append_seam M X)
 
-pub drop-two : (P Q R : List ℕ) {a b : ℕ} → length P ≡ a → a + length Q ≡ b → drop b (P ++ (Q ++ R)) ≡ R
-drop-two P Q R {a} {b} p q = rw (← append_assoc) (drop_at (P ++ Q) R b (simp length-append (omega arith)))
+pub drop_two : (P Q R : List ℕ) {a b : ℕ} → length P ≡ a → a + length Q ≡ b → drop b (P ++ (Q ++ R)) ≡ R
+drop_two P Q R {a} {b} p q = rw (← append_assoc) (drop_at (P ++ Q) R b (simp length-append (omega arith)))
 
 -- a part that stands behind P and before R, moved in its place
-pub moved-part : (f : List ℕ → List ℕ) (P T R : List ℕ) {a e : ℕ} → length P ≡ a → a + length T ≡ e → length (f T) ≡ length T → moved f a e (P ++ (T ++ R)) ≡ P ++ (f T ++ R)
-moved-part f P T R {a} {e} p t l =
+pub moved_part : (f : List ℕ → List ℕ) (P T R : List ℕ) {a e : ℕ} → length P ≡ a → a + length T ≡ e → length (f T) ≡ length T → moved f a e (P ++ (T ++ R)) ≡ P ++ (f T ++ R)
+moved_part f P T R {a} {e} p t l =
     let y = P ++ (T ++ R) in
     let n : e - a ≡ length T = omega arith in
     let k : length y ≡ a + (length T + length R) = simp length-append (omega arith) in
     let w : take (e - a) (drop a y) ≡ T = ap₂ take n (drop_at P (T ++ R) a p) ∙ take-append_seam T R in
-    moved_in y f a e (omega arith) (omega arith) ∙ rw (w, drop-two P T R p t, take_at P (T ++ R) a p)
+    moved_in y f a e (omega arith) (omega arith) ∙ rw (w, drop_two P T R p t, take_at P (T ++ R) a p)
 
 -- ---- a deck laid in a buffer
 
-pub laid-start : (d : List ℕ) (n : ℕ) → n ≤ length d → d ≡ laid (take n d) n d
+pub laid_start : (d : List ℕ) (n : ℕ) → n ≤ length d → d ≡ laid (take n d) n d
 unfolding laid
-laid-start d n h =
+laid_start d n h =
     let z : n - length (take n d) ≡ 0 = simp length-take (omega arith) in
     rw (z, take-append-drop)
 
-pub take-laid : (new : List ℕ) (hi : ℕ) (d : List ℕ) {n : ℕ} → length new ≡ n → take n (laid new hi d) ≡ new
+pub take_laid : (new : List ℕ) (hi : ℕ) (d : List ℕ) {n : ℕ} → length new ≡ n → take n (laid new hi d) ≡ new
 unfolding laid
-take-laid new hi d {n} e = take_at new (zeros (hi - length new) ++ drop hi d) n e
+take_laid new hi d {n} e = take_at new (zeros (hi - length new) ++ drop hi d) n e
 
-pub length-laid : (new : List ℕ) (hi : ℕ) (d : List ℕ) → length new ≤ hi → hi ≤ length d → length (laid new hi d) ≡ length d
+pub length_laid : (new : List ℕ) (hi : ℕ) (d : List ℕ) → length new ≤ hi → hi ≤ length d → length (laid new hi d) ≡ length d
 unfolding laid
-length-laid new hi d h k = simp (length-append, length-replicate, length-drop) (omega arith)
+length_laid new hi d h k = simp (length-append, length-replicate, length-drop) (omega arith)
 
-drop-zeros : (t u : ℕ) (e : List ℕ) → drop t (zeros u ++ e) ≡ zeros (u - t) ++ drop (t - u) e
-drop-zeros zero u e = rw (sub-zero, zero-sub)
-drop-zeros (suc t) zero e = rw (sub-zero, zero-sub)
-drop-zeros (suc t) (suc u) e = rw (suc-sub-suc u t, suc-sub-suc t u) (drop-zeros t u e)
+drop_zeros : (t u : ℕ) (e : List ℕ) → drop t (zeros u ++ e) ≡ zeros (u - t) ++ drop (t - u) e
+drop_zeros zero u e = rw (sub-zero, zero-sub)
+drop_zeros (suc t) zero e = rw (sub-zero, zero-sub)
+drop_zeros (suc t) (suc u) e = rw (suc-sub-suc u t, suc-sub-suc t u) (drop_zeros t u e)
 
 zeros_add : (s t : ℕ) (e : List ℕ) → zeros s ++ (zeros t ++ e) ≡ zeros (s + t) ++ e
 zeros_add s t e = rw (← append_assoc, replicate-append-replicate)
 
-again-sum : (y z hi : ℕ) → y ≤ hi → y + (z - y) - z + (hi - y - (z - y)) ≡ max hi z - z
-again-sum y z hi h = omega arith
+again_sum : (y z hi : ℕ) → y ≤ hi → y + (z - y) - z + (hi - y - (z - y)) ≡ max hi z - z
+again_sum y z hi h = omega arith
 
 -- a deck laid over a deck that was laid: of the first nothing but zeros is left
-pub laid-again : (z y : List ℕ) (hi : ℕ) (d : List ℕ) → length y ≤ hi → laid z (max (length y) (length z)) (laid y hi d) ≡ laid z (max hi (length z)) d
+pub laid_again : (z y : List ℕ) (hi : ℕ) (d : List ℕ) → length y ≤ hi → laid z (max (length y) (length z)) (laid y hi d) ≡ laid z (max hi (length z)) d
 unfolding laid
-laid-again z y hi d h =
+laid_again z y hi d h =
     let t : ℕ = length z - length y in
     let u : ℕ = hi - length y in
     let m : max (length y) (length z) ≡ length y + t = omega arith in
     let k : hi + (t - u) ≡ max hi (length z) = omega arith in
     let e : drop (length y + t) (y ++ (zeros u ++ drop hi d)) ≡ zeros (u - t) ++ drop (max hi (length z)) d =
-    drop-append-add y (zeros u ++ drop hi d) t ∙ drop-zeros t u (drop hi d) ∙ rw (drop-drop, k) in
-    rw (m, e, zeros_add, again-sum (length y) (length z) hi h)
+    drop-append-add y (zeros u ++ drop hi d) t ∙ drop_zeros t u (drop hi d) ∙ rw (drop-drop, k) in
+    rw (m, e, zeros_add, again_sum (length y) (length z) hi h)
 
-pub put-length : (d : List ℕ) (at : ℕ) (bs : List ℕ) → at + length bs ≤ length d → length (put d at bs) ≡ length d
+pub put_length : (d : List ℕ) (at : ℕ) (bs : List ℕ) → at + length bs ≤ length d → length (put d at bs) ≡ length d
 unfolding put
-put-length d at bs h = simp (length-append, length-drop) (omega (arith, length-take-le at d (omega arith)))
+put_length d at bs h = simp (length-append, length-drop) (omega (arith, length-take-le at d (omega arith)))
 
 -- one behind the other, where there is room for both
 pub put_both : (d : List ℕ) (at : ℕ) (bs cs : List ℕ) {y z : List ℕ} {o : ℕ} → y ≡ put_in d at bs → z ≡ put_in y o cs → o ≡ at + length bs → at + length bs + length cs ≤ length d → z ≡ put_in d at (bs ++ cs)
 put_both d at bs cs {y} {z} {o} e f w h =
     let a : y ≡ put d at bs = e ∙ put_in_lem d at bs (omega arith) in
-    let l : length y ≡ length d = ap length a ∙ put-length d at bs (omega arith) in
+    let l : length y ≡ length d = ap length a ∙ put_length d at bs (omega arith) in
     let b : z ≡ put y (at + length bs) cs = f ∙ ap (λ (n : ℕ). put_in y n cs) w ∙ put_in_lem y (at + length bs) cs (omega arith) in
     b ∙ ap (λ (x : List ℕ). put x (at + length bs) cs) a ∙ put_on d at bs cs (omega arith) ∙ sym (put_in_lem d at (bs ++ cs) (omega (arith, length-append bs cs)))
 
 -- the buffer behind the longest deck
-pub drop-laid : (new : List ℕ) (hi : ℕ) (d : List ℕ) → length new ≤ hi → drop hi (laid new hi d) ≡ drop hi d
+pub drop_laid : (new : List ℕ) (hi : ℕ) (d : List ℕ) → length new ≤ hi → drop hi (laid new hi d) ≡ drop hi d
 unfolding laid
-drop-laid new hi d h =
+drop_laid new hi d h =
     rw (← append_assoc) (drop_at (new ++ zeros (hi - length new)) (drop hi d) hi (simp (length-append, length-replicate) (omega arith)))

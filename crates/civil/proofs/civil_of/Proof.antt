@@ -1,5 +1,5 @@
 use Prim.Native.Nat.{◌+◌}
-use Rattle.civil.specs.Laws.Steps.{year-most, years_least}
+use Rattle.civil.specs.Laws.Steps.{year_most, years_least}
 use native.Mathlib.Omega.{arith}
 use Rattle.civil.specs.Laws.Unique.{made}
 use borrow.Author.Rules.{rules}
@@ -10,7 +10,7 @@ add-year : tie.Need-overflow-add-year
 add-year c = omega (arith, c.before.years-in.ensures.sum, years_least c.before.years-in.result.whole)
 
 add-t6 : tie.Need-overflow-add-t6
-add-t6 c = let a = c.before.before.before.before.years-in in omega (arith, a.ensures.inside, year-most (100 + a.result.whole), c.before.before.months-in.ensures.0.sum)
+add-t6 c = let a = c.before.before.before.before.years-in in omega (arith, a.ensures.inside, year_most (100 + a.result.whole), c.before.before.months-in.ensures.0.sum)
 
 returns : tie.Need-returns
 returns c = made c.before.before.before.before.years-in.ensures c.before.before.months-in.ensures.0 c.before.before.months-in.ensures.1

@@ -60,16 +60,16 @@ firsts b zero = 0
 firsts b (suc m) = firsts b m + get_or (lengths b) m 0
 
 -- a year has 365 days, and one more in its leap row
-pub year-is : (y : ℕ) → year_days y ≡ 365 + row (leap y)
+pub year_is : (y : ℕ) → year_days y ≡ 365 + row (leap y)
 unfolding months_days
-year-is y = go (leap y)
+year_is y = go (leap y)
   where
     go : (b : Bool) → firsts b 12 ≡ 365 + row b
     go true = refl
     go false = refl
 
-pub year-most : (y : ℕ) → year_days y ≤ 366
-year-most y = omega (arith, year-is y, go (leap y))
+pub year_most : (y : ℕ) → year_days y ≤ 366
+year_most y = omega (arith, year_is y, go (leap y))
   where
     go : (b : Bool) → row b ≤ 1
     go true = lit≤ tt
@@ -79,4 +79,4 @@ pub years_least : (k : ℕ) → 365 * k ≤ years_days k
 years_least zero = omega (arith, years.none)
 years_least (suc k) =
     let e : years_days (suc k) ≡ years_days (k + 1) = ap years_days (omega arith) in
-    omega (arith, e, years.next k, year-is (100 + k), years_least k)
+    omega (arith, e, years.next k, year_is (100 + k), years_least k)

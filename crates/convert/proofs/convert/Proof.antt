@@ -1,8 +1,8 @@
 use native.Mathlib.Omega.{arith}
 use mathlib.Core.Path.{sym, ◌∙◌}
 use borrow.Author.Tests.{not-true, not-false}
-use Rattle.format.specs.Laws.Format.{bytes-all}
-use Rattle.convert.specs.Laws.Convert.{convert_unknown, convert-long, convert-other, convert-no, convert-is, convert_ready}
+use Rattle.format.specs.Laws.Format.{bytes_all}
+use Rattle.convert.specs.Laws.Convert.{convert_unknown, convert_long, convert_other, convert_no, convert_is, convert_ready}
 use borrow.Author.Rules.{rules}
 use Rattle.convert.proofs.convert.Statement.{statement}
 use Rattle.convert.proofs.convert.Tie as tie
@@ -24,7 +24,7 @@ returns c = convert_unknown _ _ _ _ _ c.before.before.edition-of.ensures c.enum-
 
 -- src/lib.rt:60:9
 returns-2 : tie.Need-returns-2
-returns-2 c = convert-long _ _ _ _ _ c.before.before.before.edition-of.ensures c.before.enum_told.given.1 c.if1.true
+returns-2 c = convert_long _ _ _ _ _ c.before.before.before.edition-of.ensures c.before.enum_told.given.1 c.if1.true
 
 -- src/lib.rt:62:15
 version-at-requires : tie.Need-version-at-requires
@@ -36,7 +36,7 @@ takes-requires c κs = search rules
 
 -- src/lib.rt:63:9
 returns-3 : tie.Need-returns-3
-returns-3 c = convert-other _ _ _ _ _ c.before.before.before.before.before.before.edition-of.ensures c.before.before.before.before.enum_told.given.1 (omega (arith, c.before.before.before.if1.false)) c.before.before.version-at.ensures (sym c.before.takes.ensures ∙ not-true _ c.if2.true)
+returns-3 c = convert_other _ _ _ _ _ c.before.before.before.before.before.before.edition-of.ensures c.before.before.before.before.enum_told.given.1 (omega (arith, c.before.before.before.if1.false)) c.before.before.version-at.ensures (sym c.before.takes.ensures ∙ not-true _ c.if2.true)
 
 -- src/lib.rt:65:9
 pass-requires : tie.Need-pass-requires
@@ -56,11 +56,11 @@ scan-says-requires c κs = search rules
 
 -- src/lib.rt:67:9
 returns-4 : tie.Need-returns-4
-returns-4 c = convert-no _ _ _ _ _ c.before.before.before.before.before.before.before.before.before.before.edition-of.ensures c.before.before.before.before.before.before.before.before.enum_told.given.1 (omega (arith, c.before.before.before.before.before.before.before.if1.false)) c.before.before.before.before.before.before.version-at.ensures (sym c.before.before.before.before.before.takes.ensures ∙ not-false _ c.before.before.before.before.if2.false) c.before.before.before.pass.ensures.0 c.before.enum-told3.given.1 c.scan-says.ensures
+returns-4 c = convert_no _ _ _ _ _ c.before.before.before.before.before.before.before.before.before.before.edition-of.ensures c.before.before.before.before.before.before.before.before.enum_told.given.1 (omega (arith, c.before.before.before.before.before.before.before.if1.false)) c.before.before.before.before.before.before.version-at.ensures (sym c.before.before.before.before.before.takes.ensures ∙ not-false _ c.before.before.before.before.if2.false) c.before.before.before.pass.ensures.0 c.before.enum-told3.given.1 c.scan_says_lem.ensures
 
 -- src/lib.rt:69:5
 rewrite-requires : tie.Need-rewrite-requires
-rewrite-requires c κs = convert_ready _ _ (bytes-all c.before.before.before.before.before.before.before.before.before.before.before.before.before.before.args.s.now c.before.before.before.before.before.before.before.before.before.before.before.before.before.shared-slice-known.given) c.before.before.before.before.pass.ensures.0 c.before.before.c.given.1
+rewrite-requires c κs = convert_ready _ _ (bytes_all c.before.before.before.before.before.before.before.before.before.before.before.before.before.before.args.s.now c.before.before.before.before.before.before.before.before.before.before.before.before.before.shared-slice-known.given) c.before.before.before.before.pass.ensures.0 c.before.before.c.given.1
 
 -- src/lib.rt:52:1
 same_length : tie.Need-same-length
@@ -68,7 +68,7 @@ same_length c = search rules
 
 -- src/lib.rt:52:1
 returns-5 : tie.Need-returns-5
-returns-5 c = convert-is _ _ _ _ _ c.before.before.before.before.before.before.before.before.before.before.before.before.before.before.edition-of.ensures c.before.before.before.before.before.before.before.before.before.before.before.before.enum_told.given.1 (omega (arith, c.before.before.before.before.before.before.before.before.before.before.before.if1.false)) c.before.before.before.before.before.before.before.before.before.before.version-at.ensures (sym c.before.before.before.before.before.before.before.before.before.takes.ensures ∙ not-false _ c.before.before.before.before.before.before.before.before.if2.false) c.before.before.before.before.before.before.before.pass.ensures.0 _ _ (bytes-all c.before.before.before.before.before.before.before.before.before.before.before.before.before.before.before.before.before.args.s.now c.before.before.before.before.before.before.before.before.before.before.before.before.before.before.before.before.shared-slice-known.given) c.before.before.before.before.before.c.given.1 c.before.before.rewrite.ensures
+returns-5 c = convert_is _ _ _ _ _ c.before.before.before.before.before.before.before.before.before.before.before.before.before.before.edition-of.ensures c.before.before.before.before.before.before.before.before.before.before.before.before.enum_told.given.1 (omega (arith, c.before.before.before.before.before.before.before.before.before.before.before.if1.false)) c.before.before.before.before.before.before.before.before.before.before.version-at.ensures (sym c.before.before.before.before.before.before.before.before.before.takes.ensures ∙ not-false _ c.before.before.before.before.before.before.before.before.if2.false) c.before.before.before.before.before.before.before.pass.ensures.0 _ _ (bytes_all c.before.before.before.before.before.before.before.before.before.before.before.before.before.before.before.before.before.args.s.now c.before.before.before.before.before.before.before.before.before.before.before.before.before.before.before.before.shared-slice-known.given) c.before.before.before.before.before.c.given.1 c.before.before.rewrite.ensures
 
 pub convert-spec : {M : Type 1} → statement M
 convert-spec =

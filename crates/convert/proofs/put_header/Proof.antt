@@ -1,4 +1,4 @@
-use Rattle.convert.specs.Laws.Convert.{headed-put}
+use Rattle.convert.specs.Laws.Convert.{headed_put}
 use borrow.Author.Rules.{rules}
 use Rattle.convert.proofs.put_header.Statement.{statement}
 use Rattle.convert.proofs.put_header.Tie as tie
@@ -21,7 +21,7 @@ same_length c = search rules
 
 -- src/lib.rt:24:1
 returns : tie.Need-returns
-returns c = headed-put _ _ _ c.before.before.before.before.before.before.before.before.before.before.put-number.ensures c.before.before.before.before.before.before.put-number2.ensures c.before.before.put-number3.ensures
+returns c = headed_put _ _ _ c.before.before.before.before.before.before.before.before.before.before.put-number.ensures c.before.before.before.before.before.before.put-number2.ensures c.before.before.put-number3.ensures
 
 pub put-header-spec : {M : Type 1} → statement M
 put-header-spec =

@@ -1,7 +1,7 @@
 use native.Mathlib.Omega.{arith}
 use mathlib.Core.Logic.{inl, inr}
-use Rattle.deck.specs.Laws.Deck.{index-small}
-use Rattle.convert.specs.Laws.Convert.{rewrite_out, rewrite-two, rewrite-plain, length-take-drop}
+use Rattle.deck.specs.Laws.Deck.{index_small}
+use Rattle.convert.specs.Laws.Convert.{rewrite_out, rewrite_two, rewrite_plain, length_take_drop}
 use borrow.Author.Rules.{rules}
 use Rattle.convert.proofs.rewrite.Statement.{statement}
 use Rattle.convert.proofs.rewrite.Tie as tie
@@ -12,11 +12,11 @@ wide-of-requires c κs = search rules
 
 -- src/lib.rt:37:21
 mul-start : tie.Need-overflow-mul-start
-mul-start c = omega (arith, index-small _ _ c.wide_of.ensures.1 c.before.before.before.requires.2)
+mul-start c = omega (arith, index_small _ _ c.wide_of.ensures.1 c.before.before.before.requires.2)
 
 -- src/lib.rt:37:17
 add_start : tie.Need-overflow-add-start
-add_start c = omega (arith, index-small _ _ c.wide_of.ensures.1 c.before.before.before.requires.2)
+add_start c = omega (arith, index_small _ _ c.wide_of.ensures.1 c.before.before.before.requires.2)
 
 -- src/lib.rt:38:17
 sub-rules : tie.Need-overflow-sub-rules
@@ -32,7 +32,7 @@ part-rules-end c = search rules
 
 -- src/lib.rt:39:31
 add-room-for : tie.Need-overflow-add-room-for
-add-room-for c = omega (arith, index-small _ _ c.before.wide_of.ensures.1 c.before.before.before.before.requires.2, c.before.before.before.before.requires.1, length-take-drop c.before.before.before.before.args.s.now c.before.before.before.before.args.base)
+add-room-for c = omega (arith, index_small _ _ c.before.wide_of.ensures.1 c.before.before.before.before.requires.2, c.before.before.before.before.requires.1, length_take_drop c.before.before.before.before.args.s.now c.before.before.before.before.args.base)
 
 -- src/lib.rt:39:9
 room-for-requires : tie.Need-room-for-requires
@@ -63,7 +63,7 @@ same_length c = search rules
 
 -- src/lib.rt:33:1
 returns-2 : tie.Need-returns-2
-returns-2 c = rewrite-two _ _ _ _ _ _ _ c.before.before.before.before.before.before.before.before.before.before.before.before.before.before.before.before.before.wide_of.ensures.0 c.before.before.before.before.before.before.before.before.before.before.before.before.before.before.before.room_for_lem.ensures c.before.before.before.before.before.before.before.before.before.before.before.before.before.enum_told.given.1 c.before.before.before.before.before.before.before.before.before.before.before.put-header.ensures c.before.before.before.before.before.before.before.put-bytes.ensures c.before.before.before.before.if1.true c.before.before.put-offsets.ensures
+returns-2 c = rewrite_two _ _ _ _ _ _ _ c.before.before.before.before.before.before.before.before.before.before.before.before.before.before.before.before.before.wide_of.ensures.0 c.before.before.before.before.before.before.before.before.before.before.before.before.before.before.before.room_for_lem.ensures c.before.before.before.before.before.before.before.before.before.before.before.before.before.enum_told.given.1 c.before.before.before.before.before.before.before.before.before.before.before.put-header.ensures c.before.before.before.before.before.before.before.put-bytes.ensures c.before.before.before.before.if1.true c.before.before.put-offsets.ensures
 
 -- src/lib.rt:33:1
 same-length-2 : tie.Need-same-length-2
@@ -71,7 +71,7 @@ same-length-2 c = search rules
 
 -- src/lib.rt:33:1
 returns-3 : tie.Need-returns-3
-returns-3 c = rewrite-plain _ _ _ _ _ _ c.before.before.before.before.before.before.before.before.before.before.before.before.before.wide_of.ensures.0 c.before.before.before.before.before.before.before.before.before.before.before.room_for_lem.ensures c.before.before.before.before.before.before.before.before.before.enum_told.given.1 c.before.before.before.before.before.before.before.put-header.ensures c.before.before.before.put-bytes.ensures c.if1.false
+returns-3 c = rewrite_plain _ _ _ _ _ _ c.before.before.before.before.before.before.before.before.before.before.before.before.before.wide_of.ensures.0 c.before.before.before.before.before.before.before.before.before.before.before.room_for_lem.ensures c.before.before.before.before.before.before.before.before.before.enum_told.given.1 c.before.before.before.before.before.before.before.put-header.ensures c.before.before.before.put-bytes.ensures c.if1.false
 
 pub rewrite-spec : {M : Type 1} → statement M
 rewrite-spec =

@@ -3,9 +3,9 @@ use native.Mathlib.Omega.{arith}
 use mathlib.Core.Path.{sym, ◌∙◌}
 use borrow.Author.Tests.{not-true, not-false}
 use borrow.Author.Rules.{rules}
-use Rattle.format.specs.Laws.Format.{bytes-all}
-use Rattle.rule.specs.Laws.Rule.{rule-small}
-use Rattle.deck.specs.Laws.Deck.{Turn, turn-done, turn_offset, turn_off, turn_stop, turn-go}
+use Rattle.format.specs.Laws.Format.{bytes_all}
+use Rattle.rule.specs.Laws.Rule.{rule_small}
+use Rattle.deck.specs.Laws.Deck.{Turn, turn_done, turn_offset, turn_off, turn_stop, turn_go}
 use Rattle.deck.proofs.rules_at.Statement.{statement}
 use Rattle.deck.proofs.rules_at.Tie as tie
 
@@ -43,7 +43,7 @@ returns-2 : tie.Need-returns-2 invariant-loop decreases-loop
 returns-2 c = turn_stop _ _ _ _ c.before.before.before.before.before.before.loop.invariant.0 c.before.before.before.before.before.loop-test.true (sym c.before.before.before.before.starts-at.ensures ∙ not-false _ c.before.before.before.if1.false) c.before.before.rule-at.ensures c.enum_told.given.1
 
 add-t : tie.Need-overflow-add-t invariant-loop decreases-loop
-add-t c = omega (arith, c.before.before.before.before.before.before.loop-test.true, c.before.before.before.before.before.before.before.loop.invariant.1.0, c.before.before.before.before.before.before.before.before.before.requires.1, rule-small _ _ c.before.before.before.before.before.before.before.before.before.args.s.now _ (bytes-all c.before.before.before.before.before.before.before.before.before.args.s.now c.before.before.before.before.before.before.before.before.shared-slice-known.given) c.before.before.before.rule-at.ensures c.before.r.given.1)
+add-t c = omega (arith, c.before.before.before.before.before.before.loop-test.true, c.before.before.before.before.before.before.before.loop.invariant.1.0, c.before.before.before.before.before.before.before.before.before.requires.1, rule_small _ _ c.before.before.before.before.before.before.before.before.before.args.s.now _ (bytes_all c.before.before.before.before.before.before.before.before.before.args.s.now c.before.before.before.before.before.before.before.before.shared-slice-known.given) c.before.before.before.rule-at.ensures c.before.r.given.1)
 
 add-i : tie.Need-overflow-add-i invariant-loop decreases-loop
 add-i c = search rules
@@ -52,10 +52,10 @@ loop-less : tie.Need-loop-smaller invariant-loop decreases-loop
 loop-less c = search rules
 
 loop-again : tie.Need-loop-preserved invariant-loop decreases-loop
-loop-again c = (turn-go _ _ _ _ c.before.before.before.before.before.before.before.loop.invariant.0 c.before.before.before.before.before.before.loop-test.true (sym c.before.before.before.before.before.starts-at.ensures ∙ not-false _ c.before.before.before.before.if1.false) c.before.before.before.rule-at.ensures c.before.r.given.1, (omega (arith, c.before.before.before.before.before.before.loop-test.true, c.before.before.before.before.before.before.before.loop.invariant.1.0, rule-small _ _ c.before.before.before.before.before.before.before.before.before.args.s.now _ (bytes-all c.before.before.before.before.before.before.before.before.before.args.s.now c.before.before.before.before.before.before.before.before.shared-slice-known.given) c.before.before.before.rule-at.ensures c.before.r.given.1), omega (arith, c.before.before.before.before.before.before.loop-test.true)))
+loop-again c = (turn_go _ _ _ _ c.before.before.before.before.before.before.before.loop.invariant.0 c.before.before.before.before.before.before.loop-test.true (sym c.before.before.before.before.before.starts-at.ensures ∙ not-false _ c.before.before.before.before.if1.false) c.before.before.before.rule-at.ensures c.before.r.given.1, (omega (arith, c.before.before.before.before.before.before.loop-test.true, c.before.before.before.before.before.before.before.loop.invariant.1.0, rule_small _ _ c.before.before.before.before.before.before.before.before.before.args.s.now _ (bytes_all c.before.before.before.before.before.before.before.before.before.args.s.now c.before.before.before.before.before.before.before.before.shared-slice-known.given) c.before.before.before.rule-at.ensures c.before.r.given.1), omega (arith, c.before.before.before.before.before.before.loop-test.true)))
 
 returns-3 : tie.Need-returns-3 invariant-loop decreases-loop
-returns-3 c = turn-done _ _ _ _ c.before.loop.invariant.0 (omega (arith, c.loop-test.false))
+returns-3 c = turn_done _ _ _ _ c.before.loop.invariant.0 (omega (arith, c.loop-test.false))
 
 pub rules-at-spec : {M : Type 1} → statement M
 rules-at-spec =

@@ -14,9 +14,9 @@ unfoldable pub rule_a : Rule
 rule_a = record { signature = 0; name = record { form = Short; units = 0x41 ∷ [] }; on = true; unknown2 = 0; unknown3 = 0; unknown4 = 0; unknown5 = 0; elements = (0x1F5, plain) ∷ [] }
 
 -- the 70 bytes are that rule alone, read and written
-pub sample-reads : read_deck 2 sample ≡ got (deck_of 1 (rule_a ∷ [])) 70
+pub sample_reads : read_deck 2 sample ≡ got (deck_of 1 (rule_a ∷ [])) 70
 unfolding ComputingDecks sample rule_a
-sample-reads = refl
+sample_reads = refl
 
 pub sample_writes : (deck Studio).write (deck_of 1 (rule_a ∷ [])) ≡ sample
 unfolding ComputingDecks sample rule_a

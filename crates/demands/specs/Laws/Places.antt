@@ -4,13 +4,13 @@ use Rattle.std.proofs.Common.{arith, sym, ap, ◌∙◌, append_assoc, length-ap
 use Rattle.std.proofs.Math.Seq.{take-append_seam}
 use Rattle.format.specs.Format.{Format, Bytes, got}
 use Rattle.format.specs.ReadWrite.{spelt, each_write, AllFit}
-use Rattle.format.specs.Laws.ReadWrite.{length-spelt}
+use Rattle.format.specs.Laws.ReadWrite.{length_spelt}
 use Rattle.format.specs.Combinators.{number}
 use Rattle.format.specs.Laws.Written.{behind, Stands, Held, Row}
 use Rattle.format.specs.Row.{start_in}
 use Rattle.format.specs.Laws.Skip.{nth}
 use Rattle.text.specs.Text.{Text, length_of, string_length, unit, string, word, units_from}
-use Rattle.text.specs.Laws.Written.{string-written, string-fits, string-long, word-written, word_fits}
+use Rattle.text.specs.Laws.Written.{string_written, string_fits, string_long, word_written, word_fits}
 use Rattle.kind.specs.declared.Product.{Product}
 use Rattle.kind.specs.declared.Role.TheVariants.{Condition}
 use Rattle.kind.specs.declared.Kind.{Kind}
@@ -18,15 +18,15 @@ use Rattle.kind.specs.declared.Kind.TheVariants as Kind
 use Rattle.kind.specs.declared.Row.{Row as KindRow}
 use Rattle.kind.specs.declared.Row.TheVariants as KindRow
 use Rattle.element.specs.Data.{Data, words_of, data_of}
-use Rattle.element.specs.Laws.Data.{Other, words-none, list_parts}
+use Rattle.element.specs.Laws.Data.{Other, words_none, list_parts}
 use Rattle.element.specs.Element.{Element, data_by}
 use Rattle.rule.specs.Rule.{Rule, rule, placed}
 use Rattle.rule.specs.Places.{elements_at}
-use Rattle.rule.specs.Laws.Places.{rule-elements}
+use Rattle.rule.specs.Laws.Places.{rule_elements}
 use Rattle.deck.specs.Deck.{base_of, read_as}
-use Rattle.deck.specs.Laws.Deck.{read_writes-back}
+use Rattle.deck.specs.Laws.Deck.{read_writes_back}
 use Rattle.deck.specs.Written.{deck_of, start_of}
-use Rattle.deck.specs.Laws.Written.{start_as, deck-row}
+use Rattle.deck.specs.Laws.Written.{start_as, deck_row}
 use Rattle.given.specs.Given.{units}
 use Rattle.demands.specs.Places.{Between, UnitsOf, element_start}
 
@@ -37,9 +37,9 @@ between a s at {x} {u} b =
     record { ends = refl; are = rw (z, b.is) (take-append_seam (a.write x) u) }
 
 -- a number of four bytes
-pub four-between : (s : List ℕ) (at : ℕ) {v : ℕ} {u : List ℕ} → Stands (number 4) s at v u → Between s at (at + 4) (spelt 4 v)
+pub four_between : (s : List ℕ) (at : ℕ) {v : ℕ} {u : List ℕ} → Stands (number 4) s at v u → Between s at (at + 4) (spelt 4 v)
 unfolding number
-four-between s at {v} b = rw length-spelt at (between (number 4) s at b)
+four_between s at {v} b = rw length_spelt at (between (number 4) s at b)
 
 -- value k of a row stands where it starts
 pub stands_in : {A : Type 0} (a : ℕ → Format A) (s : List ℕ) (from k : ℕ) (xs : List A) {x : A} {ys : List A} {t : List ℕ} → Row a s 0 from xs t → drop k xs ≡ x ∷ ys → Held (a k) s (start_in a from xs k) x
@@ -50,33 +50,33 @@ stands_in a s from k xs {x} {ys} {t} row d =
     (n.tail, rw z at n.stands)
 
 -- the units of a String, and of a word
-units-back : (i : ℕ) (us : List ℕ) → AllFit (λ j. number 2) i us → units (each_write (λ j. number 2) i us) ≡ us
+units_back : (i : ℕ) (us : List ℕ) → AllFit (λ j. number 2) i us → units (each_write (λ j. number 2) i us) ≡ us
 unfolding units each_write AllFit number spelt
-units-back i [] f = refl
-units-back i (u ∷ us) f =
+units_back i [] f = refl
+units_back i (u ∷ us) f =
     let z : u % 256 + 256 * (u / 256 % 256) ≡ u = omega (arith, f.0) in
-    rw (z, units-back (i + 1) us f.1)
+    rw (z, units_back (i + 1) us f.1)
 
-pub string-units : (s : List ℕ) (at : ℕ) {t : Text} {u : List ℕ} → Stands string s at t u → UnitsOf t.units (take (2 * length t.units) (drop (units_from at t) s))
-string-units s at {t} {u} b =
+pub string_units : (s : List ℕ) (at : ℕ) {t : Text} {u : List ℕ} → Stands string s at t u → UnitsOf t.units (take (2 * length t.units) (drop (units_from at t) s))
+string_units s at {t} {u} b =
     let n = string_length.write (length_of t) in
     let bs = each_write (λ i. number 2) 0 t.units in
-    let w = string-written unit t in
-    let l : length bs ≡ 2 * length t.units = omega (arith, string-long t, ap length w, length-append n bs) in
+    let w = string_written unit t in
+    let l : length bs ≡ 2 * length t.units = omega (arith, string_long t, ap length w, length-append n bs) in
     let e : take (2 * length t.units) (drop (at + length n) s) ≡ bs = rw (← l, behind s at n (bs ++ u) (b.is ∙ rw (w, append_assoc))) (take-append_seam bs u) in
-    (e, ap units e ∙ units-back 0 t.units (string-fits unit t b.fit).1)
+    (e, ap units e ∙ units_back 0 t.units (string_fits unit t b.fit).1)
 
-pub word-units : (s : List ℕ) (at : ℕ) {t : Text} {u : List ℕ} → Stands word s at t u → UnitsOf t.units (take (2 * length t.units) (drop (units_from (at + 4) t) s))
-word-units s at {t} {u} b =
-    let e = behind s at (spelt 4 0) (string.write t ++ u) (b.is ∙ rw (word-written, append_assoc)) in
-    string-units s (at + 4) (record { fit = word_fits unit t b.fit; is = rw length-spelt at e })
+pub word_units : (s : List ℕ) (at : ℕ) {t : Text} {u : List ℕ} → Stands word s at t u → UnitsOf t.units (take (2 * length t.units) (drop (units_from (at + 4) t) s))
+word_units s at {t} {u} b =
+    let e = behind s at (spelt 4 0) (string.write t ++ u) (b.is ∙ rw (word_written, append_assoc)) in
+    string_units s (at + 4) (record { fit = word_fits unit t b.fit; is = rw length_spelt at e })
 
 -- the words of data that have a word: only a word list has
 pub words_row : (w : ℕ) (s : List ℕ) (at : ℕ) {x : Data} {u : List ℕ} {t : Text} {ws : List Text} (o : KindRow) → drop w (words_of x) ≡ t ∷ ws → Stands (data_by o) s at x u → Row (λ i. word) s 0 (at + 4) (words_of x) u
 words_row w s at {x} {u} o d = by o
   where
     other : (k : Kind) → Other k → Stands (data_of k) s at x u → Row (λ i. word) s 0 (at + 4) (words_of x) u
-    other k i b = let z : words_of x ≡ [] = words-none [] (λ ws. ws) k x b.fit i in absurd (omega (arith, length-drop w (words_of x), ap length d, ap length z))
+    other k i b = let z : words_of x ≡ [] = words_none [] (λ ws. ws) k x b.fit i in absurd (omega (arith, length-drop w (words_of x), ap length d, ap length z))
 
     of : (k : Kind) → Stands (data_of k) s at x u → Row (λ i. word) s 0 (at + 4) (words_of x) u
     of Kind.Marker b = other Kind.Marker tt b
@@ -91,10 +91,10 @@ words_row w s at {x} {u} o d = by o
 
 -- ---- the deck s was read as the rules rs in version v, and r is rule k of them
 module _ (p : Product) (v : ℕ) (s : List ℕ) (rs : List Rule) (n : ℕ) (bs : Bytes s) (e : read_as p s ≡ got (deck_of v rs) n) (k : ℕ) {r : Rule} {later : List Rule} (is-r : drop k rs ≡ r ∷ later) where
-  pub rule-stands : Held (rule p k) s (start_of v rs k) r
-  rule-stands =
-      let w = read_writes-back p s (deck_of v rs) n bs e in
-      rw (start_as v rs k p) at (stands_in (rule p) s (base_of v (length rs)) k rs (deck-row p s (deck_of v rs) w.fit w.is) is-r)
+  pub rule_stands : Held (rule p k) s (start_of v rs k) r
+  rule_stands =
+      let w = read_writes_back p s (deck_of v rs) n bs e in
+      rw (start_as v rs k p) at (stands_in (rule p) s (base_of v (length rs)) k rs (deck_row p s (deck_of v rs) w.fit w.is) is-r)
 
-  pub element-stands : (i : ℕ) {x : Element} {others : List Element} → drop i r.elements ≡ x ∷ others → Held (placed p i) s (element_start p v rs k r i) x
-  element-stands i d = let h = rule-stands in stands_in (placed p) s (elements_at p k (start_of v rs k) r) i r.elements (rule-elements p k s (start_of v rs k) r h.0 h.1) d
+  pub element_stands : (i : ℕ) {x : Element} {others : List Element} → drop i r.elements ≡ x ∷ others → Held (placed p i) s (element_start p v rs k r i) x
+  element_stands i d = let h = rule_stands in stands_in (placed p) s (elements_at p k (start_of v rs k) r) i r.elements (rule_elements p k s (start_of v rs k) r h.0 h.1) d

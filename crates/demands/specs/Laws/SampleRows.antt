@@ -17,9 +17,9 @@ unfolding ComputingRules rows_of rule_a
 sample_tables = (refl, refl)
 
 -- document 02, W10: in version 2 the deck has an offset more, and is the same rule, read and written
-pub sample_2-reads : read_deck 2 (sample_in 2 0x0B) ≡ got (deck_of 2 (rule_a ∷ [])) 74
+pub sample_2_reads : read_deck 2 (sample_in 2 0x0B) ≡ got (deck_of 2 (rule_a ∷ [])) 74
 unfolding ComputingDecks sample rule_a
-sample_2-reads = refl
+sample_2_reads = refl
 
 pub sample_2_writes : (deck Studio).write (deck_of 2 (rule_a ∷ [])) ≡ sample_in 2 0x0B
 unfolding ComputingDecks sample rule_a
@@ -29,6 +29,6 @@ pub sample_2_tables : (rule_rows Studio 0 11 (rule_a ∷ []) ≡ 11 ∷ 74 ∷ 1
 unfolding ComputingRules rows_of rule_a
 sample_2_tables = (refl, refl)
 
-pub two-elements : element_rows Studio 3 100 ((0x1F5, plain) ∷ (0x1F5, plain) ∷ []) ≡ 0x1F5 ∷ 3 ∷ 104 ∷ 112 ∷ 0x1F5 ∷ 3 ∷ 118 ∷ 126 ∷ []
+pub two_elements : element_rows Studio 3 100 ((0x1F5, plain) ∷ (0x1F5, plain) ∷ []) ≡ 0x1F5 ∷ 3 ∷ 104 ∷ 112 ∷ 0x1F5 ∷ 3 ∷ 118 ∷ 126 ∷ []
 unfolding ComputingRules rows_of
-two-elements = refl
+two_elements = refl

@@ -1,6 +1,6 @@
 use native.Mathlib.Omega.{arith}
 use borrow.Author.Rules.{rules}
-use Rattle.digits.specs.Laws.Digits.{Spelling, spelling-first, spelling-next, spelling-left, spelling-last}
+use Rattle.digits.specs.Laws.Digits.{Spelling, spelling_first, spelling_next, spelling_left, spelling_last}
 use Rattle.digits.proofs.spell.Statement.{statement}
 use Rattle.digits.proofs.spell.Tie as tie
 
@@ -11,16 +11,16 @@ abbrev decreases-loop : tie.decreases-loop
 decreases-loop n s₀ i₀ rest₀ s i rest = rest
 
 loop-holds : tie.Need-loop-init invariant-loop decreases-loop
-loop-holds c = spelling-first c.before.args.s.now c.before.args.n (omega arith) (omega arith)
+loop-holds c = spelling_first c.before.args.s.now c.before.args.n (omega arith) (omega arith)
 
 sub-i : tie.Need-overflow-sub-i invariant-loop decreases-loop
-sub-i c = spelling-left _ _ c.before.loop.invariant (omega arith)
+sub-i c = spelling_left _ _ c.before.loop.invariant (omega arith)
 
 loop-again : tie.Need-loop-preserved invariant-loop decreases-loop
-loop-again c = spelling-next _ _ c.before.loop.invariant (omega arith)
+loop-again c = spelling_next _ _ c.before.loop.invariant (omega arith)
 
 returns : tie.Need-returns invariant-loop decreases-loop
-returns c = spelling-last c.before.before.before.args.s.now _ c.before.loop.invariant (omega arith)
+returns c = spelling_last c.before.before.before.args.s.now _ c.before.loop.invariant (omega arith)
 
 pub spell-spec : {M : Type 1} → statement M
 spell-spec =

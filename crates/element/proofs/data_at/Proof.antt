@@ -1,4 +1,4 @@
-use Rattle.element.specs.Laws.Element.{data_is, simple-is}
+use Rattle.element.specs.Laws.Element.{data_is, simple_is}
 use borrow.Author.Rules.{rules}
 use Rattle.element.proofs.data_at.Statement.{statement}
 use Rattle.element.proofs.data_at.Tie as tie
@@ -7,7 +7,7 @@ returns : tie.Need-returns
 returns c = data_is _ _ _ _ c.before.enum_told.given.1 c.marker-at.ensures
 
 returns-2 : tie.Need-returns-2
-returns-2 c = simple-is _ _ _ _ c.before.enum-told2.given.1 c.one-zero-at.ensures
+returns-2 c = simple_is _ _ _ _ c.before.enum-told2.given.1 c.one-zero-at.ensures
 
 returns-3 : tie.Need-returns-3
 returns-3 c = data_is _ _ _ _ c.before.enum-told3.given.1 c.word-list-at.ensures

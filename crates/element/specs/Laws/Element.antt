@@ -7,7 +7,7 @@ use Rattle.format.specs.declared.Fault.TheVariants as Fault
 use Rattle.format.specs.declared.Read.{Read}
 use Rattle.format.specs.declared.Read.TheVariants as Read
 use Rattle.format.specs.Combinators.{judged, number}
-use Rattle.format.specs.Laws.Seen.{seen, itself, none, via-is, pair_stop, pair-go, judged_stop, judged-got, judged-no, number-no}
+use Rattle.format.specs.Laws.Seen.{seen, itself, none, via_is, pair_stop, pair_go, judged_stop, judged_got, judged_no, number_no}
 use Rattle.kind.specs.declared.Product.{Product}
 use Rattle.kind.specs.declared.Role.{Role}
 use Rattle.kind.specs.declared.Kind.{Kind}
@@ -15,7 +15,7 @@ use Rattle.kind.specs.declared.Kind.TheVariants as Kind
 use Rattle.kind.specs.declared.Row.{Row}
 use Rattle.kind.specs.declared.Row.TheVariants.{Is, No}
 use Rattle.kind.specs.Kinds.{kinds, row_in, row_of, offered}
-use Rattle.kind.specs.Laws.Kinds.{offered-is, lacking, foreign, ComputingKinds}
+use Rattle.kind.specs.Laws.Kinds.{offered_is, lacking, foreign, ComputingKinds}
 use Rattle.text.specs.Laws.Written.{ComputingTexts}
 use Rattle.element.specs.Data.{data_of, simple_data, one_zero}
 use Rattle.element.specs.Element.{is_row, data_by, identifier, Element, element}
@@ -31,13 +31,13 @@ pub data_is : (k v : Kind) (s : List ℕ) (at : ℕ) {out : Read} → k ≡ v �
 data_is k v s at e o = rw e o
 
 -- a simple element's data are those of the marker without its last word
-pub simple-is : (k : Kind) (r : Role) (s : List ℕ) (at : ℕ) {out : Read} → k ≡ Kind.Simple r → out ≡ seen none one_zero s at → out ≡ seen none (data_of k) s at
+pub simple_is : (k : Kind) (r : Role) (s : List ℕ) (at : ℕ) {out : Read} → k ≡ Kind.Simple r → out ≡ seen none one_zero s at → out ≡ seen none (data_of k) s at
 unfolding simple_data
-simple-is k r s at e o = data_is k (Kind.Simple r) s at e (via-is none one_zero _ _ _ s at o)
+simple_is k r s at e o = data_is k (Kind.Simple r) s at e (via_is none one_zero _ _ _ s at o)
 
-row-found : (p : Product) (id : ℕ) {r : Row} {k : Kind} → r ≡ row_of p id → r ≡ Is k → row_in kinds id ≡ Is k
+row_found : (p : Product) (id : ℕ) {r : Row} {k : Kind} → r ≡ row_of p id → r ≡ Is k → row_in kinds id ≡ Is k
 unfolding row_of
-row-found p id f k = offered-is p (row_in kinds id) (sym f ∙ k)
+row_found p id f k = offered_is p (row_in kinds id) (sym f ∙ k)
 
 -- a is what the number at a place was read as
 module _ (p : Product) (s : List ℕ) (at : ℕ) {a : Read} where
@@ -48,33 +48,33 @@ module _ (p : Product) (s : List ℕ) (at : ℕ) {a : Read} where
   -- the number is id, and there is a row for it
   in_table : {id m : ℕ} {k : Kind} → a ≡ seen itself (number 4) s at → a ≡ Read.Got m id → row_in kinds id ≡ Is k
       → Read.Got m id ≡ seen itself (judged (λ i. is_row (row_in kinds i)) Fault.Unknown (number 4)) s at
-  in_table e h y = judged-got itself (λ i. is_row (row_in kinds i)) Fault.Unknown (number 4) s at e h (sym (ap is_row y)) refl
+  in_table e h y = judged_got itself (λ i. is_row (row_in kinds i)) Fault.Unknown (number 4) s at e h (sym (ap is_row y)) refl
 
   -- r is its row in the product
   module _ {r : Row} {id m : ℕ} where
-    pub element-no : {c : Fault} {q : ℕ} → a ≡ seen itself (number 4) s at → a ≡ Read.Got m id → r ≡ row_of p id → r ≡ No c q → Read.No at c ≡ seen named (element p) s at
+    pub element_no : {c : Fault} {q : ℕ} → a ≡ seen itself (number 4) s at → a ≡ Read.Got m id → r ≡ row_of p id → r ≡ No c q → Read.No at c ≡ seen named (element p) s at
     unfolding element identifier row_of offered
-    element-no {c} {q} e h f k = pair_stop named (identifier p) _ s at itself (go (row_in kinds id) refl) refl
+    element_no {c} {q} e h f k = pair_stop named (identifier p) _ s at itself (go (row_in kinds id) refl) refl
       where
         go : (w : Row) → row_in kinds id ≡ w → Read.No at c ≡ seen itself (identifier p) s at
         go (No d o) y =
             let u : c ≡ Fault.Unknown = lacking kinds id (y ∙ sym (ap (offered p) y) ∙ sym f ∙ k) in
-            rw u (judged_stop itself _ Fault.Foreign _ s at (judged-no itself (λ i. is_row (row_in kinds i)) Fault.Unknown (number 4) s at e h (sym (ap is_row y))) refl)
+            rw u (judged_stop itself _ Fault.Foreign _ s at (judged_no itself (λ i. is_row (row_in kinds i)) Fault.Unknown (number 4) s at e h (sym (ap is_row y))) refl)
         go (Is j) y =
             let u : c ≡ Fault.Foreign = foreign p j (sym (ap (offered p) y) ∙ sym f ∙ k) in
-            rw u (judged-no itself (λ i. is_row (row_of p i)) Fault.Foreign _ s at (in_table e h y) refl (sym (ap is_row (sym f ∙ k))))
+            rw u (judged_no itself (λ i. is_row (row_of p i)) Fault.Foreign _ s at (in_table e h y) refl (sym (ap is_row (sym f ∙ k))))
 
     -- x is what was read of the data of the kind
-    pub element-is : {x : Read} {k : Kind} → a ≡ seen itself (number 4) s at → a ≡ Read.Got m id → r ≡ row_of p id → r ≡ Is k → x ≡ seen (λ d. id) (data_of k) s m → x ≡ seen named (element p) s at
+    pub element_is : {x : Read} {k : Kind} → a ≡ seen itself (number 4) s at → a ≡ Read.Got m id → r ≡ row_of p id → r ≡ Is k → x ≡ seen (λ d. id) (data_of k) s m → x ≡ seen named (element p) s at
     unfolding element identifier
-    element-is e h f k d =
-        let y = row-found p id f k in
-        pair-go named (identifier p) (λ i. data_by (row_in kinds i)) s at
-        (judged-got itself (λ i. is_row (row_of p i)) Fault.Foreign _ s at (in_table e h y) refl (sym (ap is_row (sym f ∙ k))) refl) refl (rw y d)
+    element_is e h f k d =
+        let y = row_found p id f k in
+        pair_go named (identifier p) (λ i. data_by (row_in kinds i)) s at
+        (judged_got itself (λ i. is_row (row_of p i)) Fault.Foreign _ s at (in_table e h y) refl (sym (ap is_row (sym f ∙ k))) refl) refl (rw y d)
 
 -- there is no element past the end
-pub element-past : (p : Product) (s : List ℕ) (at : ℕ) → length s < at → Read.No at Fault.Cut ≡ seen named (element p) s at
-element-past p s at h = element_cut p s at (number-no 4 s at (omega arith)) refl
+pub element_past : (p : Product) (s : List ℕ) (at : ℕ) → length s < at → Read.No at Fault.Cut ≡ seen named (element p) s at
+element_past p s at h = element_cut p s at (number_no 4 s at (omega arith)) refl
 
 -- ---- where a case is computed
 unfoldable pub ComputingElements : Type 0

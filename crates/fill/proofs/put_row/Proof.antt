@@ -1,8 +1,8 @@
 use native.Mathlib.Omega.{arith}
 use mathlib.Core.Path.{◌∙◌}
 use Rattle.buffer.specs.Laws.Laid.{put_in_lem}
-use Rattle.buffer.proofs.Parts.{put-tail}
-use Rattle.lent.specs.Laws.Lent.{lent-put}
+use Rattle.buffer.proofs.Parts.{put_tail}
+use Rattle.lent.specs.Laws.Lent.{lent_put}
 use borrow.Author.Rules.{rules}
 use Rattle.fill.proofs.put_row.Statement.{statement}
 use Rattle.fill.proofs.put_row.Tie as tie
@@ -11,7 +11,7 @@ returns : tie.Need-returns
 returns c = λ h. absurd (omega arith)
 
 returns-2 : tie.Need-returns-2
-returns-2 c = λ h. put-tail _ _ _ _ (lent-put _ _ _ c.before.before.put-row.ensures (omega arith)) h ∙ put_in_lem _ _ _ h
+returns-2 c = λ h. put_tail _ _ _ _ (lent_put _ _ _ c.before.before.put-row.ensures (omega arith)) h ∙ put_in_lem _ _ _ h
 
 pub put-row-spec : {M : Type 1} → statement M
 put-row-spec =

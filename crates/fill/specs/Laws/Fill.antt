@@ -8,11 +8,11 @@ use Rattle.format.specs.declared.Read.{Read}
 use Rattle.format.specs.declared.Read.TheVariants.{Got, No}
 use Rattle.format.specs.Format.{Format, Bytes, pick}
 use Rattle.format.specs.Combinators.{pair, judged, via, seq, ◌then◌, number}
-use Rattle.format.specs.Laws.Seen.{seen, itself, got-at}
+use Rattle.format.specs.Laws.Seen.{seen, itself, got_at}
 use Rattle.format.specs.Row.{total, start_in}
 use Rattle.format.specs.Laws.Written.{Row}
-use Rattle.format.specs.Laws.Back.{back-got, back-no, seen-fits}
-use Rattle.format.specs.Laws.Skip.{start_first, start-end, start_more, nth}
+use Rattle.format.specs.Laws.Back.{back_got, back_no, seen_fits}
+use Rattle.format.specs.Laws.Skip.{start_first, start_end, start_more, nth}
 use Rattle.kind.specs.declared.Product.{Product}
 use Rattle.element.specs.Element.{Element, element, identifier}
 use Rattle.element.specs.Laws.Element.{named}
@@ -20,7 +20,7 @@ use Rattle.rule.specs.Rule.{placed, separator}
 use Rattle.rule.specs.Places.{data_at, elements_bytes}
 use Rattle.fill.specs.declared.Entry.{Entry}
 use Rattle.buffer.specs.Laid.{put}
-use Rattle.buffer.specs.Laws.Laid.{put-none, put_on, put-length}
+use Rattle.buffer.specs.Laws.Laid.{put_none, put_on, put_length}
 use Rattle.fill.specs.Rows.{rows_of, element_row, element_rows, element_width}
 
 -- rows at the start of a table
@@ -37,10 +37,10 @@ rows_long a row w f h i at [] = omega arith
 rows_long a row w f h i at (x ∷ xs) =
     omega (arith, length-append (row i at x) (rows_of a row (i + 1) (at + length ((a i).write x)) xs), h i at x, rows_long a row w f h (i + 1) (at + length ((a i).write x)) xs)
 
-pub total-one : {A : Type 0} (xs : List A) → total (λ x. 1) xs ≡ length xs
+pub total_one : {A : Type 0} (xs : List A) → total (λ x. 1) xs ≡ length xs
 unfolding total
-total-one [] = refl
-total-one (x ∷ xs) = omega (arith, total-one xs)
+total_one [] = refl
+total_one (x ∷ xs) = omega (arith, total_one xs)
 
 -- rows are to come, and the table of len numbers is full up to k
 pub record Filling (rows whole : List ℕ) (len : ℕ) (t : List ℕ) (k : ℕ) : Type 0 where
@@ -49,23 +49,23 @@ pub record Filling (rows whole : List ℕ) (len : ℕ) (t : List ℕ) (k : ℕ) 
   pub rest : put t k rows ≡ whole
 
 module _ (vs ws : List ℕ) {rows whole t : List ℕ} {len k : ℕ} where
-  pub filling-room : Filling rows whole len t k → rows ≡ vs ++ ws → k + length vs ≤ length t
-  filling-room f e = omega (arith, f.room, f.long, ap length e, length-append vs ws)
+  pub filling_room : Filling rows whole len t k → rows ≡ vs ++ ws → k + length vs ≤ length t
+  filling_room f e = omega (arith, f.room, f.long, ap length e, length-append vs ws)
 
-  pub filling-go : {t₁ : List ℕ} {k₁ : ℕ} → Filling rows whole len t k → rows ≡ vs ++ ws → t₁ ≡ put t k vs → k₁ ≡ k + length vs → Filling ws whole len t₁ k₁
-  filling-go {t₁} {k₁} f e h l =
-      let r = filling-room f e in
+  pub filling_go : {t₁ : List ℕ} {k₁ : ℕ} → Filling rows whole len t k → rows ≡ vs ++ ws → t₁ ≡ put t k vs → k₁ ≡ k + length vs → Filling ws whole len t₁ k₁
+  filling_go {t₁} {k₁} f e h l =
+      let r = filling_room f e in
       record {
-        long = ap length h ∙ put-length t k vs r ∙ f.long;
+        long = ap length h ∙ put_length t k vs r ∙ f.long;
         room = omega (arith, f.room, ap length e, length-append vs ws, l);
         rest = ap₂ (λ (x : List ℕ) (n : ℕ). put x n ws) h l ∙ put_on t k vs ws (omega arith) ∙ ap (put t k) (sym e) ∙ f.rest;
       }
 
-pub filling-done : {rows whole t : List ℕ} {len k : ℕ} → Filling rows whole len t k → rows ≡ [] → t ≡ whole
-filling-done {t = t} {k = k} f e = sym (put-none t k) ∙ ap (put t k) (sym e) ∙ f.rest
+pub filling_done : {rows whole t : List ℕ} {len k : ℕ} → Filling rows whole len t k → rows ≡ [] → t ≡ whole
+filling_done {t = t} {k = k} f e = sym (put_none t k) ∙ ap (put t k) (sym e) ∙ f.rest
 
-pub filling-start : (rows t : List ℕ) (k : ℕ) → k + length rows ≤ length t → Filling rows (put t k rows) (length t) t k
-filling-start rows t k h = record { long = refl; room = h; rest = refl }
+pub filling_start : (rows t : List ℕ) (k : ℕ) → k + length rows ≤ length t → Filling rows (put t k rows) (length t) t k
+filling_start rows t k h = record { long = refl; room = h; rest = refl }
 
 -- of the values of a row from value j on, the first of which starts at p
 module _ {A : Type 0} (a : ℕ → Format A) (row : ℕ → ℕ → A → List ℕ) (j p : ℕ) (xs : List A) where
@@ -75,9 +75,9 @@ module _ {A : Type 0} (a : ℕ → Format A) (row : ℕ → ℕ → A → List �
       let z : drop (j + 1) xs ≡ ys = sym (drop-drop 1 j xs) ∙ ap (drop 1) e in
       rw (z, e)
 
-  pub rows-done : length xs ≤ j → rows_of a row j p (drop j xs) ≡ []
+  pub rows_done : length xs ≤ j → rows_of a row j p (drop j xs) ≡ []
   unfolding rows_of
-  rows-done l = ap (rows_of a row j p) (drop_of_length-le xs l)
+  rows_done l = ap (rows_of a row j p) (drop_of_length-le xs l)
 
 -- ---- what the code promises: where values are known to stand, they are read and their rows stored
 
@@ -95,30 +95,30 @@ ElementsTurn p s at base i n k t j q t₁ =
     × Filling (rows_of (placed p) (element_row p i) j (base + q) (drop j xs)) (put t k (element_rows p i (base + at) xs)) (length t) t₁ (k + element_width * j)
 
 module _ (p : Product) (s : List ℕ) (at base i n k : ℕ) (t : List ℕ) where
-  pub elements-start : ElementsTurn p s at base i n k t 0 at t
-  elements-start xs u w m h = (start_first (placed p) at xs, record { long = refl; room = omega arith; rest = ap (λ (z : ℕ). put t z (element_rows p i (base + at) xs)) (add-zero k) })
+  pub elements_start : ElementsTurn p s at base i n k t 0 at t
+  elements_start xs u w m h = (start_first (placed p) at xs, record { long = refl; room = omega arith; rest = ap (λ (z : ℕ). put t z (element_rows p i (base + at) xs)) (add-zero k) })
 
   module _ (j q : ℕ) (t₁ : List ℕ) (e : ElementsTurn p s at base i n k t j q t₁) where
-    pub elements-done : n ≤ j → ElementsFill p s at base i n k t t₁ (Got q n)
-    elements-done l xs u w m h =
+    pub elements_done : n ≤ j → ElementsFill p s at base i n k t t₁ (Got q n)
+    elements_done l xs u w m h =
         let b = e xs u w m h in
-        (got-at (b.0 ∙ start-end (placed p) at j xs (omega arith)), filling-done b.1 (rows-done (placed p) (element_row p i) j (base + q) xs (omega arith)))
+        (got_at (b.0 ∙ start_end (placed p) at j xs (omega arith)), filling_done b.1 (rows_done (placed p) (element_row p i) j (base + q) xs (omega arith)))
 
     module _ {r : Read} (l : j < n) (g : r ≡ seen named (placed p j) s q) where
       pub elements_stop : {c : Fault} {o : ℕ} → r ≡ No o c → ElementsFill p s at base i n k t t₁ r
-      elements_stop f xs u w m h = back-no named (placed p j) s q (nth (placed p) s at j q xs u (e xs u w m h).0 w (omega arith)).stands g f
+      elements_stop f xs u w m h = back_no named (placed p j) s q (nth (placed p) s at j q xs u (e xs u w m h).0 w (omega arith)).stands g f
 
       pub elements_fill : {v o d : ℕ} {t₂ : List ℕ} → r ≡ Got o v → d ≡ data_at j (base + q) → (k + element_width * j + element_width ≤ length t₁ → t₂ ≡ put t₁ (k + element_width * j) (v ∷ i ∷ d ∷ (base + o) ∷ []))
           → ElementsTurn p s at base i n k t (j + 1) o t₂
       elements_fill {v} {o} {d} {t₂} f starts z xs u w m h =
           let b = e xs u w m h in
           let x = nth (placed p) s at j q xs u b.0 w (omega arith) in
-          let y = back-got named (placed p j) s q x.stands g f in
+          let y = back_got named (placed p j) s q x.stands g f in
           let ends : base + o ≡ base + q + length ((placed p j).write x.x) = omega (arith, y.1) in
           let rows = rows_next (placed p) (element_row p i) j (base + q) xs x.whole in
-          let room : k + element_width * j + element_width ≤ length t₁ = filling-room (element_row p i j (base + q) x.x) _ b.1 rows in
+          let room : k + element_width * j + element_width ≤ length t₁ = filling_room (element_row p i j (base + q) x.x) _ b.1 rows in
           let st : t₂ ≡ put t₁ (k + element_width * j) (element_row p i j (base + q) x.x) = z room ∙ rw (y.0, starts, ends) in
-          (omega (arith, y.1, b.0, start_more (placed p) at j xs x.ys x.x x.whole), rw ends (filling-go (element_row p i j (base + q) x.x) _ b.1 rows st (omega arith)))
+          (omega (arith, y.1, b.0, start_more (placed p) at j xs x.ys x.x x.whole), rw ends (filling_go (element_row p i j (base + q) x.x) _ b.1 rows st (omega arith)))
 
 -- a rule's start, its number and the place of its elements' rows are small
 abbrev pub Small : Entry → Type 0
@@ -129,34 +129,34 @@ unfoldable pub Under : ℕ → Read → Type 0
 Under b (Got m n) = (n < 2 ^ 16) × (m ≤ b)
 Under b (No q c) = q ≤ b
 
-pub under-is : {b n m : ℕ} → n < 2 ^ 16 → m ≤ b → Under b (Got m n)
+pub under_is : {b n m : ℕ} → n < 2 ^ 16 → m ≤ b → Under b (Got m n)
 unfolding Under
-under-is h k = (h, k)
+under_is h k = (h, k)
 
-pub under-got : {b n m : ℕ} {r : Read} → Under b r → r ≡ Got m n → (n < 2 ^ 16) × (m ≤ b)
+pub under_got : {b n m : ℕ} {r : Read} → Under b r → r ≡ Got m n → (n < 2 ^ 16) × (m ≤ b)
 unfolding Under
-under-got h e = rw e at h
+under_got h e = rw e at h
 
-pub under-no : {b q : ℕ} {c : Fault} {r : Read} → r ≡ No q c → q ≤ b → Under b r
+pub under_no : {b q : ℕ} {c : Fault} {r : Read} → r ≡ No q c → q ≤ b → Under b r
 unfolding Under
-under-no e h = rw e h
+under_no e h = rw e h
 
 pub under_off : {b q : ℕ} {c : Fault} {r : Read} → Under b r → r ≡ No q c → q ≤ b
 unfolding Under
 under_off h e = rw e at h
 
 -- an identifier has 32 bits
-pub identifier-small : (p : Product) (j : ℕ) (s : List ℕ) (at : ℕ) {r : Read} {v m : ℕ} → Bytes s → r ≡ seen named (placed p j) s at → r ≡ Got m v → v < 2 ^ 32
+pub identifier_small : (p : Product) (j : ℕ) (s : List ℕ) (at : ℕ) {r : Read} {v m : ℕ} → Bytes s → r ≡ seen named (placed p j) s at → r ≡ Got m v → v < 2 ^ 32
 unfolding placed pick element identifier ◌then◌ seq via pair judged number
-identifier-small p j s at bs e h = let o = seen-fits named (placed p j) s at bs e h in rw o.1.1 (go (eqb j 0) o.0 o.1.0)
+identifier_small p j s at bs e h = let o = seen_fits named (placed p j) s at bs e h in rw o.1.1 (go (eqb j 0) o.0 o.1.0)
   where
     go : (b : Bool) (x : Element) → (pick b (element p) (separator then element p)).Fit x → named x < 2 ^ 32
     go true x f = f.0.0.0
     go false x f = f.0.1.0.0.0
 
-pub two-small : (s : List ℕ) (at : ℕ) {r : Read} {v m : ℕ} → Bytes s → r ≡ seen itself (number 2) s at → r ≡ Got m v → v < 2 ^ 16
+pub two_small : (s : List ℕ) (at : ℕ) {r : Read} {v m : ℕ} → Bytes s → r ≡ seen itself (number 2) s at → r ≡ Got m v → v < 2 ^ 16
 unfolding number
-two-small s at bs e h = let o = seen-fits itself (number 2) s at bs e h in rw o.1.1 o.1.0
+two_small s at bs e h = let o = seen_fits itself (number 2) s at bs e h in rw o.1.1 o.1.0
 
 pub under_up : {a b : ℕ} (r : Read) → Under a r → a ≤ b → Under b r
 unfolding Under

@@ -6,14 +6,14 @@ use Rattle.format.specs.declared.Read.{Read}
 use Rattle.format.specs.declared.Read.TheVariants.{Got, No}
 use Rattle.format.specs.ReadWrite.{each_write}
 use Rattle.format.specs.Combinators.{number}
-use Rattle.format.specs.Laws.Seen.{seen, itself, none, unlike, got-at}
-use Rattle.format.specs.Laws.Parts.{part, stands-part}
+use Rattle.format.specs.Laws.Seen.{seen, itself, none, unlike, got_at}
+use Rattle.format.specs.Laws.Parts.{part, stands_part}
 use Rattle.format.specs.Row.{total, start_in}
 use Rattle.format.specs.Laws.Written.{Stands, Row}
-use Rattle.format.specs.Laws.Back.{stands-room, back-got, back-no}
-use Rattle.format.specs.Laws.Skip.{start_first, start-end, start_more, Nth, nth}
-use Rattle.text.specs.Laws.Seen.{text_seen, text-unlike, text-back, text-told}
-use Rattle.text.specs.Laws.Written.{length_size, length-size, string-fits}
+use Rattle.format.specs.Laws.Back.{stands_room, back_got, back_no}
+use Rattle.format.specs.Laws.Skip.{start_first, start_end, start_more, Nth, nth}
+use Rattle.text.specs.Laws.Seen.{text_seen, text_unlike, text_back, text_told_lem}
+use Rattle.text.specs.Laws.Written.{length_size, length_size_lem, string_fits}
 use Rattle.kind.specs.declared.Product.{Product}
 use Rattle.text.specs.declared.Form.{Form}
 use Rattle.text.specs.declared.StringRead.{StringRead}
@@ -22,10 +22,10 @@ use Rattle.text.specs.Text.{string, length_of, unit}
 use Rattle.element.specs.Element.{Element}
 use Rattle.rule.specs.Rule.{Rule, rule, body, head, placed, elements_in}
 use Rattle.rule.specs.Places.{rule_bytes, units_at, enabled_at, elements_at}
-use Rattle.rule.specs.Laws.Places.{body_parts, behind-count, rule_parts}
+use Rattle.rule.specs.Laws.Places.{body_parts, behind_count, rule_parts}
 use Rattle.fill.specs.Rows.{rule_row, rule_rows, element_row, element_rows, rule_element_rows, all_element_rows, rule_width, element_width}
 use Rattle.buffer.specs.Laid.{put}
-use Rattle.fill.specs.Laws.Fill.{rows_long, total-one, rows_next, rows-done, Filling, filling-start, filling-room, filling-go, filling-done, ElementsFill}
+use Rattle.fill.specs.Laws.Fill.{rows_long, total_one, rows_next, rows_done, Filling, filling_start, filling_room, filling_go, filling_done, ElementsFill}
 
 -- ---- the number of a rule's elements, its head, its elements
 
@@ -37,20 +37,20 @@ BodyFill p s at base i k t t₁ r =
 
 module _ (p : Product) (s : List ℕ) (at base i k : ℕ) (t t₁ : List ℕ) {c : Read} (e : c ≡ seen itself (number 2) s at) where
   pub body_cut : {f : Fault} {o : ℕ} → c ≡ No o f → BodyFill p s at base i k t t₁ c
-  body_cut h xs u b l = back-no itself (number 2) s at (body_parts p i s at xs u b).many.1 e h
+  body_cut h xs u b l = back_no itself (number 2) s at (body_parts p i s at xs u b).many.1 e h
 
   module _ {n m : ℕ} (h : c ≡ Got m n) {d : Read} (g : d ≡ seen none (head i) s m) where
     pub body_off : {f : Fault} {o : ℕ} → d ≡ No o f → BodyFill p s at base i k t t₁ d
-    body_off w xs u b l = back-no none (head i) s m (behind-count p i s at (body_parts p i s at xs u b) e h).1.1.1 g w
+    body_off w xs u b l = back_no none (head i) s m (behind_count p i s at (body_parts p i s at xs u b) e h).1.1.1 g w
 
-    pub body-go : {v q : ℕ} {r : Read} → d ≡ Got q v → ElementsFill p s q base i n k t t₁ r → BodyFill p s at base i k t t₁ r
-    body-go {q = q} {r = r} w f xs u b l =
+    pub body_go : {v q : ℕ} {r : Read} → d ≡ Got q v → ElementsFill p s q base i n k t t₁ r → BodyFill p s at base i k t t₁ r
+    body_go {q = q} {r = r} w f xs u b l =
         let y = body_parts p i s at xs u b in
-        let z = behind-count p i s at y e h in
-        let o : q ≡ at + 2 + length ((head i).write tt) = (back-got none (head i) s m z.1.1.1 g w).1 ∙ ap (λ (x : ℕ). x + length ((head i).write tt)) z.1.0 in
+        let z = behind_count p i s at y e h in
+        let o : q ≡ at + 2 + length ((head i).write tt) = (back_got none (head i) s m z.1.1.1 g w).1 ∙ ap (λ (x : ℕ). x + length ((head i).write tt)) z.1.0 in
         let a : ElementsFill p s (at + 2 + length ((head i).write tt)) base i (length xs) k t t₁ r = rw (o, z.0) at f in
         let d = a xs u y.elements refl l in
-        (d.0 ∙ got-at y.ends, d.1)
+        (d.0 ∙ got_at y.ends, d.1)
 
 -- ---- a rule
 
@@ -64,14 +64,14 @@ PartFill p s base i k t t₁ e e₁ r =
 module _ (p : Product) (s : List ℕ) (base i k : ℕ) (t t₁ e e₁ : List ℕ) where
   module _ {c : StringRead} (g : c ≡ text_seen length_of string s 4) where
     pub rule_nameless : {r : Read} {f : Fault} {o : ℕ} → c ≡ StringRead.No o f → PartFill p s base i k t t₁ e e₁ r
-    rule_nameless h x u b lt le = text-unlike (text-back length_of string s 4 (rule_parts p i s 0 x u b).named.1 g) h
+    rule_nameless h x u b lt le = text_unlike (text_back length_of string s 4 (rule_parts p i s 0 x u b).named.1 g) h
 
     module _ {form : Form} {v m : ℕ} (h : c ≡ StringRead.Got m form v) {r : Read} (f : BodyFill p s (m + 24) base i k e e₁ r) where
       bodied : (x : Rule) (u : List ℕ) → Stands (rule p i) s 0 x u → k + length (rule_element_rows p i base x) ≤ length e
           → (r ≡ Got (rule_bytes p i x) (elements_in x)) × (e₁ ≡ put e k (rule_element_rows p i base x))
       bodied x u b le =
           let y = rule_parts p i s 0 x u b in
-          let o : m ≡ enabled_at 0 x = (text-told length_of string s 4 y.named.1 g h).0 in
+          let o : m ≡ enabled_at 0 x = (text_told_lem length_of string s 4 y.named.1 g h).0 in
           let w : m + 24 + length ((body p i).write x.elements) ≡ rule_bytes p i x = omega (arith, o, y.ends) in
           let v : base + (m + 24 + 2 + length ((head i).write tt)) ≡ elements_at p i base x = omega (arith, o, y.begins) in
           rw (w, v) at (f x.elements u (rw o y.bodied) (rw v le))
@@ -79,16 +79,16 @@ module _ (p : Product) (s : List ℕ) (base i k : ℕ) (t t₁ e e₁ : List ℕ
       pub rule_bare : {d : Fault} {o : ℕ} → r ≡ No o d → PartFill p s base i k t t₁ e e₁ r
       rule_bare w x u b lt le = unlike (bodied x u b le).0 w
 
-      pub rule-go : {z n q : ℕ} → z ≡ length_size form → r ≡ Got q n
+      pub rule_go : {z n q : ℕ} → z ≡ length_size form → r ≡ Got q n
           → (rule_width * i + rule_width ≤ length t → t₁ ≡ put t (rule_width * i) (base ∷ (base + q) ∷ (base + (4 + z)) ∷ n ∷ (base + m) ∷ [])) → PartFill p s base i k t t₁ e e₁ (Got q n)
-      rule-go {z} {n} {q} j w st x u b lt le =
+      rule_go {z} {n} {q} j w st x u b lt le =
           let y = rule_parts p i s 0 x u b in
           let d = bodied x u b le in
           let same : Got q n ≡ Got (rule_bytes p i x) (elements_in x) = sym w ∙ d.0 in
           let ends : base + q ≡ base + rule_bytes p i x = cc in
           let many : n ≡ elements_in x = cc in
-          let o = text-told length_of string s 4 y.named.1 g h in
-          let units : base + (4 + z) ≡ units_at base x = omega (arith, j, ap length_size o.1.0, length-size (length_of x.name) (string-fits unit x.name y.named.1.fit).0) in
+          let o = text_told_lem length_of string s 4 y.named.1 g h in
+          let units : base + (4 + z) ≡ units_at base x = omega (arith, j, ap length_size o.1.0, length_size_lem (length_of x.name) (string_fits unit x.name y.named.1.fit).0) in
           let enabled : base + m ≡ enabled_at base x = omega (arith, o.0) in
           (same, (st lt ∙ rw (ends, units, many, enabled), d.1))
 
@@ -100,16 +100,16 @@ RuleFill p s at i k t t₁ e e₁ r =
     → (r ≡ Got (at + rule_bytes p i x) (elements_in x)) × ((t₁ ≡ put t (rule_width * i) (rule_row p i at x)) × (e₁ ≡ put e k (rule_element_rows p i at x)))
 
 module _ (p : Product) (s : List ℕ) (at i k : ℕ) (t t₁ e e₁ : List ℕ) (r : Read) where
-  pub rule-past : length s < at → RuleFill p s at i k t t₁ e e₁ r
-  rule-past l x u b lt le = absurd (omega (arith, stands-room (rule p i) s at b, (rule_parts p i s at x u b).ends))
+  pub rule_past : length s < at → RuleFill p s at i k t t₁ e e₁ r
+  rule_past l x u b lt le = absurd (omega (arith, stands_room (rule p i) s at b, (rule_parts p i s at x u b).ends))
 
   module _ {d : Read} (f : PartFill p (part s at) at i k t t₁ e e₁ d) where
     pub rule_off : {c : Fault} {o : ℕ} → d ≡ No o c → RuleFill p s at i k t t₁ e e₁ r
-    rule_off h x u b lt le = unlike (f x u (stands-part (rule p i) s at b) lt le).0 h
+    rule_off h x u b lt le = unlike (f x u (stands_part (rule p i) s at b) lt le).0 h
 
     pub rule_in : {n o : ℕ} → d ≡ Got o n → r ≡ Got (at + o) n → RuleFill p s at i k t t₁ e e₁ r
     rule_in {n} {o} h w x u b lt le =
-        let z = f x u (stands-part (rule p i) s at b) lt le in
+        let z = f x u (stands_part (rule p i) s at b) lt le in
         let same : Got o n ≡ Got (rule_bytes p i x) (elements_in x) = sym h ∙ z.0 in
         let en : n ≡ elements_in x = cc in
         let eo : o ≡ rule_bytes p i x = cc in
@@ -130,54 +130,54 @@ RulesTurn p s base n t e i q k t₁ e₁ =
     × (Filling (rule_rows p i q (drop i rs)) (put t 0 (rule_rows p 0 base rs)) (length t) t₁ (rule_width * i)
     × Filling (all_element_rows p i q (drop i rs)) (put e 0 (all_element_rows p 0 base rs)) (length e) e₁ k)
 
-pub element_rows-long : (p : Product) (i at : ℕ) (xs : List Element) → length (element_rows p i at xs) ≡ element_width * length xs
-element_rows-long p i at xs = rows_long (placed p) (element_row p i) element_width (λ x. 1) (λ j q x. refl) 0 _ xs ∙ ap (λ (m : ℕ). element_width * m) (total-one xs)
+pub element_rows_long : (p : Product) (i at : ℕ) (xs : List Element) → length (element_rows p i at xs) ≡ element_width * length xs
+element_rows_long p i at xs = rows_long (placed p) (element_row p i) element_width (λ x. 1) (λ j q x. refl) 0 _ xs ∙ ap (λ (m : ℕ). element_width * m) (total_one xs)
 
-pub rule_rows-long : (p : Product) (at : ℕ) (rs : List Rule) → length (rule_rows p 0 at rs) ≡ rule_width * length rs
-rule_rows-long p at rs = rows_long (rule p) (rule_row p) rule_width (λ x. 1) (λ i q x. refl) 0 at rs ∙ ap (λ (m : ℕ). rule_width * m) (total-one rs)
+pub rule_rows_long : (p : Product) (at : ℕ) (rs : List Rule) → length (rule_rows p 0 at rs) ≡ rule_width * length rs
+rule_rows_long p at rs = rows_long (rule p) (rule_row p) rule_width (λ x. 1) (λ i q x. refl) 0 at rs ∙ ap (λ (m : ℕ). rule_width * m) (total_one rs)
 
-pub all_rows-long : (p : Product) (at : ℕ) (rs : List Rule) → length (all_element_rows p 0 at rs) ≡ element_width * total elements_in rs
-all_rows-long p at rs = rows_long (rule p) (rule_element_rows p) element_width elements_in (λ i q x. element_rows-long p i (elements_at p i q x) x.elements) 0 at rs
+pub all_rows_long : (p : Product) (at : ℕ) (rs : List Rule) → length (all_element_rows p 0 at rs) ≡ element_width * total elements_in rs
+all_rows_long p at rs = rows_long (rule p) (rule_element_rows p) element_width elements_in (λ i q x. element_rows_long p i (elements_at p i q x) x.elements) 0 at rs
 
 module _ (p : Product) (s : List ℕ) (base n : ℕ) (t e : List ℕ) where
   -- more bytes, or more rules, than a deck has; or rules from past its end
-  pub rules-long : (r : Read) → 60000 < length s → RulesFill p s base n t t e e r
-  rules-long r h short far few rs u w m lt le = absurd (omega arith)
+  pub rules_long : (r : Read) → 60000 < length s → RulesFill p s base n t t e e r
+  rules_long r h short far few rs u w m lt le = absurd (omega arith)
 
-  pub rules-past : (r : Read) → length s < base → RulesFill p s base n t t e e r
-  rules-past r h short far few rs u w m lt le = absurd (omega arith)
+  pub rules_past : (r : Read) → length s < base → RulesFill p s base n t t e e r
+  rules_past r h short far few rs u w m lt le = absurd (omega arith)
 
-  pub rules-many : (r : Read) → 256 < n → RulesFill p s base n t t e e r
-  rules-many r h short far few rs u w m lt le = absurd (omega arith)
+  pub rules_many : (r : Read) → 256 < n → RulesFill p s base n t t e e r
+  rules_many r h short far few rs u w m lt le = absurd (omega arith)
 
-  pub rules-start : RulesTurn p s base n t e 0 base 0 t e
-  rules-start rs u w m lt le = (start_first (rule p) base rs, (filling-start _ t 0 (omega arith), filling-start _ e 0 (omega arith)))
+  pub rules_start : RulesTurn p s base n t e 0 base 0 t e
+  rules_start rs u w m lt le = (start_first (rule p) base rs, (filling_start _ t 0 (omega arith), filling_start _ e 0 (omega arith)))
 
   module _ (i q k : ℕ) (t₁ e₁ : List ℕ) (f : RulesTurn p s base n t e i q k t₁ e₁) where
-    pub rules-done : n ≤ i → RulesFill p s base n t t₁ e e₁ (Got q n)
-    rules-done l short far few rs u w m lt le =
+    pub rules_done : n ≤ i → RulesFill p s base n t t₁ e e₁ (Got q n)
+    rules_done l short far few rs u w m lt le =
         let b = f rs u w m lt le in
-        (got-at (b.0 ∙ start-end (rule p) base i rs (omega arith)), (filling-done b.1.0 (rows-done (rule p) (rule_row p) i q rs (omega arith)), filling-done b.1.1 (rows-done (rule p) (rule_element_rows p) i q rs (omega arith))))
+        (got_at (b.0 ∙ start_end (rule p) base i rs (omega arith)), (filling_done b.1.0 (rows_done (rule p) (rule_row p) i q rs (omega arith)), filling_done b.1.1 (rows_done (rule p) (rule_element_rows p) i q rs (omega arith))))
 
     module _ {r : Read} {t₂ e₂ : List ℕ} (l : i < n) (g : RuleFill p s q i k t₁ t₂ e₁ e₂ r) where
       -- what is known of the next rule
       one : (rs : List Rule) {whole all : List ℕ} {len many : ℕ} (x : Nth (rule p) s base i q rs)
           → Filling (rule_rows p i q (drop i rs)) whole len t₁ (rule_width * i) → Filling (all_element_rows p i q (drop i rs)) all many e₁ k
           → (r ≡ Got (q + rule_bytes p i x.x) (elements_in x.x)) × ((t₂ ≡ put t₁ (rule_width * i) (rule_row p i q x.x)) × (e₂ ≡ put e₁ k (rule_element_rows p i q x.x)))
-      one rs x ft fe = g x.x x.tail x.stands (filling-room (rule_row p i q x.x) _ ft (rows_next (rule p) (rule_row p) i q rs x.whole)) (filling-room (rule_element_rows p i q x.x) _ fe (rows_next (rule p) (rule_element_rows p) i q rs x.whole))
+      one rs x ft fe = g x.x x.tail x.stands (filling_room (rule_row p i q x.x) _ ft (rows_next (rule p) (rule_row p) i q rs x.whole)) (filling_room (rule_element_rows p i q x.x) _ fe (rows_next (rule p) (rule_element_rows p) i q rs x.whole))
 
       pub rules_stop : {c : Fault} {o : ℕ} → r ≡ No o c → RulesFill p s base n t t₂ e e₂ r
       rules_stop h short far few rs u w m lt le =
           let b = f rs u w m lt le in
           unlike (one rs (nth (rule p) s base i q rs u b.0 w (omega arith)) b.1.0 b.1.1).0 h
 
-      pub rules-go : {m o : ℕ} → r ≡ Got o m → RulesTurn p s base n t e (i + 1) o (k + element_width * m) t₂ e₂
-      rules-go {m} {o} h rs u w z lt le =
+      pub rules_go : {m o : ℕ} → r ≡ Got o m → RulesTurn p s base n t e (i + 1) o (k + element_width * m) t₂ e₂
+      rules_go {m} {o} h rs u w z lt le =
           let b = f rs u w z lt le in
           let x = nth (rule p) s base i q rs u b.0 w (omega arith) in
           let d = one rs x b.1.0 b.1.1 in
           let same : Got o m ≡ Got (q + rule_bytes p i x.x) (elements_in x.x) = sym h ∙ d.0 in
           let em : m ≡ elements_in x.x = cc in
           let eo : o ≡ q + rule_bytes p i x.x = cc in
-          let y = element_rows-long p i (elements_at p i q x.x) x.x.elements in
-          (omega (arith, eo, b.0, start_more (rule p) base i rs x.ys x.x x.whole), rw (eo, em) (filling-go (rule_row p i q x.x) _ b.1.0 (rows_next (rule p) (rule_row p) i q rs x.whole) d.1.0 (omega arith), filling-go (rule_element_rows p i q x.x) _ b.1.1 (rows_next (rule p) (rule_element_rows p) i q rs x.whole) d.1.1 (ap (λ (z : ℕ). k + z) (sym y))))
+          let y = element_rows_long p i (elements_at p i q x.x) x.x.elements in
+          (omega (arith, eo, b.0, start_more (rule p) base i rs x.ys x.x x.whole), rw (eo, em) (filling_go (rule_row p i q x.x) _ b.1.0 (rows_next (rule p) (rule_row p) i q rs x.whole) d.1.0 (omega arith), filling_go (rule_element_rows p i q x.x) _ b.1.1 (rows_next (rule p) (rule_element_rows p) i q rs x.whole) d.1.1 (ap (λ (z : ℕ). k + z) (sym y))))

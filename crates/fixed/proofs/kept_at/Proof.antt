@@ -1,4 +1,4 @@
-use Rattle.fixed.specs.Laws.Fixed.{kept_1, kept_2, kept_3, kept_4, kept_5, kept-is}
+use Rattle.fixed.specs.Laws.Fixed.{kept_1, kept_2, kept_3, kept_4, kept_5, kept_is}
 use borrow.Author.Rules.{rules}
 use Rattle.fixed.proofs.kept_at.Statement.{statement}
 use Rattle.fixed.proofs.kept_at.Tie as tie
@@ -19,7 +19,7 @@ returns-5 : tie.Need-returns-5
 returns-5 c = kept_5 _ _ _ c.before.before.before.before.before.before.before.before.before.before.before.before.before.before.before.before.before.before.before.before.u32-at.ensures c.before.before.before.before.before.before.before.before.before.before.before.before.before.before.before.before.before.before.a.given.1 c.before.before.before.before.before.before.before.before.before.before.before.before.before.before.before.before.u32-at2.ensures c.before.before.before.before.before.before.before.before.before.before.before.before.before.before.b.given.1 c.before.before.before.before.before.before.before.before.before.before.before.before.u32-at3.ensures c.before.before.before.before.before.before.before.before.before.before.c.given.1 c.before.before.before.before.before.before.before.before.u32-at4.ensures c.before.before.before.before.before.before.d.given.1 c.before.before.before.before.u32-at5.ensures _ c.before.before.enum-told5.given.1
 
 returns-6 : tie.Need-returns-6
-returns-6 c = kept-is _ _ _ c.before.before.before.before.before.before.before.before.before.before.before.before.before.before.before.before.before.before.before.u32-at.ensures c.before.before.before.before.before.before.before.before.before.before.before.before.before.before.before.before.before.a.given.1 c.before.before.before.before.before.before.before.before.before.before.before.before.before.before.before.u32-at2.ensures c.before.before.before.before.before.before.before.before.before.before.before.before.before.b.given.1 c.before.before.before.before.before.before.before.before.before.before.before.u32-at3.ensures c.before.before.before.before.before.before.before.before.before.c.given.1 c.before.before.before.before.before.before.before.u32-at4.ensures c.before.before.before.before.before.d.given.1 c.before.before.before.u32-at5.ensures c.before.e.given.1
+returns-6 c = kept_is _ _ _ c.before.before.before.before.before.before.before.before.before.before.before.before.before.before.before.before.before.before.before.u32-at.ensures c.before.before.before.before.before.before.before.before.before.before.before.before.before.before.before.before.before.a.given.1 c.before.before.before.before.before.before.before.before.before.before.before.before.before.before.before.u32-at2.ensures c.before.before.before.before.before.before.before.before.before.before.before.before.before.b.given.1 c.before.before.before.before.before.before.before.before.before.before.before.u32-at3.ensures c.before.before.before.before.before.before.before.before.before.c.given.1 c.before.before.before.before.before.before.before.u32-at4.ensures c.before.before.before.before.before.d.given.1 c.before.before.before.u32-at5.ensures c.before.e.given.1
 
 pub kept-at-spec : {M : Type 1} → statement M
 kept-at-spec =

@@ -1,6 +1,6 @@
 use native.Mathlib.Omega.{arith}
 use mathlib.Core.Path.{◌∙◌}
-use Rattle.format.specs.Laws.Fault.{row_low, row-high}
+use Rattle.format.specs.Laws.Fault.{row_low, row_high}
 use borrow.Author.Rules.{rules}
 use Rattle.format.proofs.row_of.Statement.{statement}
 use Rattle.format.proofs.row_of.Tie as tie
@@ -54,4 +54,4 @@ row-of-spec =
     (λ c. row_low (omega arith) ∙ simp c.enum-told20.given.1)
     (λ c. row_low (omega arith) ∙ simp c.enum-told21.given.1)
     (λ c. row_low (omega arith) ∙ simp c.enum-told22.given.1)
-    (λ c. row-high (omega arith) ∙ simp c.enum-told23.given.1))
+    (λ c. row_high (omega arith) ∙ simp c.enum-told23.given.1))

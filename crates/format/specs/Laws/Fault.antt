@@ -40,9 +40,9 @@ pub row_low : {r : ℕ} → r ≤ 22 → row_number r ≡ r
 unfolding row_number pick
 row_low {r} h = rw (le-leb r 22 h)
 
-pub row-high : {r : ℕ} → 22 < r → row_number r ≡ 29
+pub row_high : {r : ℕ} → 22 < r → row_number r ≡ 29
 unfolding row_number pick
-row-high {r} h = rw (lt-leb r 22 h)
+row_high {r} h = rw (lt-leb r 22 h)
 
 -- the fault of a number, and the outcome of a code and a place
 abbrev pub faults : List Fault
@@ -89,31 +89,31 @@ numbered Offset = record { some = lit< tt; small = lit< tt; fault = refl }
 pub number_small : (c : Fault) → number_of c < 32
 number_small c = (numbered c).small
 
-pub code-small : (o : Outcome) → code_of o < 64
-code-small (Done n) = omega arith
-code-small (No c q) = omega (arith, (numbered c).small)
-code-small (Given c q) = omega (arith, (numbered c).small)
+pub code_small : (o : Outcome) → code_of o < 64
+code_small (Done n) = omega arith
+code_small (No c q) = omega (arith, (numbered c).small)
+code_small (Given c q) = omega (arith, (numbered c).small)
 
 -- the code is the low 8 bits, the place the rest
 pub packed_code : (o : Outcome) → packed o % 256 ≡ code_of o
-packed_code o = omega (arith, code-small o)
+packed_code o = omega (arith, code_small o)
 
-pub packed-place : (o : Outcome) → packed o / 256 ≡ place_of o
-packed-place o = omega (arith, code-small o)
+pub packed_place : (o : Outcome) → packed o / 256 ≡ place_of o
+packed_place o = omega (arith, code_small o)
 
 -- an outcome is its code and its place
-pub outcome-is : (o : Outcome) → outcome_of (code_of o) (place_of o) ≡ o
+pub outcome_is : (o : Outcome) → outcome_of (code_of o) (place_of o) ≡ o
 unfolding pick
-outcome-is (Done n) = refl
-outcome-is (No c q) = let w = numbered c in rw (ne_eqb (number_of c) 0 (λ e. omega (arith, w.some)), lt-ltb (number_of c) 32 w.small, w.fault)
-outcome-is (Given c q) =
+outcome_is (Done n) = refl
+outcome_is (No c q) = let w = numbered c in rw (ne_eqb (number_of c) 0 (λ e. omega (arith, w.some)), lt-ltb (number_of c) 32 w.small, w.fault)
+outcome_is (Given c q) =
     let w = numbered c in
     let e : number_of c + 32 - 32 ≡ number_of c = omega arith in
     rw (ne_eqb (number_of c + 32) 0 (λ e. omega arith), le-ltb (number_of c + 32) 32 (omega arith), e, w.fault)
 
 -- two answers that differ are different numbers
 pub packed_parts : (o q : Outcome) → packed o ≡ packed q → (code_of o ≡ code_of q) × (place_of o ≡ place_of q)
-packed_parts o q e = (sym (packed_code o) ∙ ap (λ (n : ℕ). n % 256) e ∙ packed_code q, sym (packed-place o) ∙ ap (λ (n : ℕ). n / 256) e ∙ packed-place q)
+packed_parts o q e = (sym (packed_code o) ∙ ap (λ (n : ℕ). n % 256) e ∙ packed_code q, sym (packed_place o) ∙ ap (λ (n : ℕ). n / 256) e ∙ packed_place q)
 
-pub packed-one : (o q : Outcome) → packed o ≡ packed q → o ≡ q
-packed-one o q e = let w = packed_parts o q e in sym (outcome-is o) ∙ ap₂ outcome_of w.0 w.1 ∙ outcome-is q
+pub packed_one : (o q : Outcome) → packed o ≡ packed q → o ≡ q
+packed_one o q e = let w = packed_parts o q e in sym (outcome_is o) ∙ ap₂ outcome_of w.0 w.1 ∙ outcome_is q

@@ -33,16 +33,16 @@ bytes_take zero s h = tt
 bytes_take (suc k) [] h = tt
 bytes_take (suc k) (x ∷ s) h = (h.0, bytes_take k s h.1)
 
-pub bytes-append : (s t : List ℕ) → Bytes s → Bytes t → Bytes (s ++ t)
+pub bytes_append : (s t : List ℕ) → Bytes s → Bytes t → Bytes (s ++ t)
 unfolding Bytes
-bytes-append [] t b c = c
-bytes-append (x ∷ s) t b c = (b.0, bytes-append s t b.1 c)
+bytes_append [] t b c = c
+bytes_append (x ∷ s) t b c = (b.0, bytes_append s t b.1 c)
 
 -- what is known of a byte slice: each fits a byte
-pub bytes-all : (s : List ℕ) → ((i : ℕ) → Fits w8 (get_or s i 0)) → Bytes s
+pub bytes_all : (s : List ℕ) → ((i : ℕ) → Fits w8 (get_or s i 0)) → Bytes s
 unfolding Bytes
-bytes-all [] h = tt
-bytes-all (x ∷ s) h = ((h zero).fits, bytes-all s (λ i. h (suc i)))
+bytes_all [] h = tt
+bytes_all (x ∷ s) h = ((h zero).fits, bytes_all s (λ i. h (suc i)))
 
 -- a reading that went on, taken apart
 pub record Went {A B : Type 0} (q : Answer A) (k : A → ℕ → Answer B) (y : B) (m : ℕ) : Type 0 where
@@ -53,39 +53,39 @@ pub record Went {A B : Type 0} (q : Answer A) (k : A → ℕ → Answer B) (y : 
   pub rest : k x n ≡ got y j
   pub sum : m ≡ n + j
 
-shift-got : {A : Type 0} (b : ℕ) (q : Answer A) (x : A) (m : ℕ) → shift b q ≡ got x m → (q ≡ got x (m - b)) × (m ≡ b + (m - b))
+shift_got : {A : Type 0} (b : ℕ) (q : Answer A) (x : A) (m : ℕ) → shift b q ≡ got x m → (q ≡ got x (m - b)) × (m ≡ b + (m - b))
 unfolding shift
-shift-got b (got y n) x m e =
+shift_got b (got y n) x m e =
     let em : m ≡ b + n = cc in
     let ej : m - b ≡ n = omega arith in
     let ex : y ≡ x = cc in
     (rw (ej, ex), omega arith)
-shift-got b (refused c p) x m e = apart (sym e)
+shift_got b (refused c p) x m e = apart (sym e)
 
 pub went : {A B : Type 0} (q : Answer A) (k : A → ℕ → Answer B) (y : B) (m : ℕ) → and_then q k ≡ got y m → Went q k y m
 unfolding and_then
 went (got x n) k y m e =
-    let h = shift-got n (k x n) y m e in
+    let h = shift_got n (k x n) y m e in
     record { x = x; n = n; j = m - n; first = refl; rest = h.0; sum = h.1 }
 went (refused c p) k y m e = apart (sym e)
 
-pub mapped-got : {A B : Type 0} (f : A → B) (q : Answer A) (y : B) (m : ℕ) → mapped f q ≡ got y m → (x : A) × ((q ≡ got x m) × (y ≡ f x))
+pub mapped_got : {A B : Type 0} (f : A → B) (q : Answer A) (y : B) (m : ℕ) → mapped f q ≡ got y m → (x : A) × ((q ≡ got x m) × (y ≡ f x))
 unfolding mapped
-mapped-got f (got x n) y m e = (x, ((cc), (cc)))
-mapped-got f (refused c p) y m e = apart (sym e)
+mapped_got f (got x n) y m e = (x, ((cc), (cc)))
+mapped_got f (refused c p) y m e = apart (sym e)
 
-pub end-mapped : {A B : Type 0} (f : A → B) (q : Answer A) → end_of (mapped f q) ≡ end_of q
+pub end_mapped : {A B : Type 0} (f : A → B) (q : Answer A) → end_of (mapped f q) ≡ end_of q
 unfolding mapped end_of
-end-mapped f (got x n) = refl
-end-mapped f (refused c p) = refl
+end_mapped f (got x n) = refl
+end_mapped f (refused c p) = refl
 
-end-shift : {A : Type 0} (b : ℕ) (q : Answer A) → end_of (shift b q) ≡ b + end_of q
+end_shift : {A : Type 0} (b : ℕ) (q : Answer A) → end_of (shift b q) ≡ b + end_of q
 unfolding shift end_of
-end-shift b (got x n) = refl
-end-shift b (refused c p) = refl
+end_shift b (got x n) = refl
+end_shift b (refused c p) = refl
 
 pub end_then : {A B : Type 0} (s : List ℕ) (q : Answer A) (k : A → ℕ → Answer B) → end_of q ≤ length s
     → ((x : A) (n : ℕ) → end_of (k x n) ≤ length (drop n s)) → end_of (and_then q k) ≤ length s
 unfolding and_then end_of
-end_then s (got x n) k h f = omega (arith, end-shift n (k x n), f x n, length-drop n s)
+end_then s (got x n) k h f = omega (arith, end_shift n (k x n), f x n, length-drop n s)
 end_then s (refused c p) k h f = h

@@ -11,8 +11,8 @@ use Rattle.format.specs.declared.Read.TheVariants.{Got, No}
 use Rattle.format.specs.Format.{got, refused, shift, mapped, and_then, Format}
 use Rattle.format.specs.ReadWrite.{each_read}
 use Rattle.format.specs.Combinators.{number, seq, each, sized}
-use Rattle.format.specs.Laws.Seen.{told, seen, itself, none, unlike, pair_stop, pair-on, number_is, number-no}
-use Rattle.format.specs.Laws.Rows.{number-there, number_cut, row-there}
+use Rattle.format.specs.Laws.Seen.{told, seen, itself, none, unlike, pair_stop, pair_on, number_is, number_no}
+use Rattle.format.specs.Laws.Rows.{number_there, number_cut, row_there}
 use Rattle.format.specs.Laws.Sizes.{sized_stop}
 
 four_cut : (i n : ℕ) (t : List ℕ) → length t < 4 * n → each_read (λ j. number 4) i n t ≡ refused Cut (4 * (length t / 4))
@@ -21,7 +21,7 @@ four_cut i zero t h = absurd (omega arith)
 four_cut i (suc n) t h =
     elim (dec_lt (length t) 4) [
       | yes l ↦ rw (number_cut 4 t l) (ap (λ (m : ℕ). refused Cut m) (omega arith))
-      | no l ↦ rw (number-there 4 t (omega arith), four_cut (i + 1) n (drop 4 t) (omega (arith, length-drop 4 t))) (ap (λ (m : ℕ). refused Cut m) (omega (arith, length-drop 4 t)))
+      | no l ↦ rw (number_there 4 t (omega arith), four_cut (i + 1) n (drop 4 t) (omega (arith, length-drop 4 t))) (ap (λ (m : ℕ). refused Cut m) (omega (arith, length-drop 4 t)))
     ]
 
 module _ (s : List ℕ) where
@@ -30,9 +30,9 @@ module _ (s : List ℕ) where
   cut_from p = No (p + 4 * ((length s - p) / 4)) Cut
 
   module _ (p n : ℕ) where
-    pub fours-there : 4 * n ≤ length s - p → Got (p + 4 * n) 0 ≡ seen none (each (λ i. number 4) 0 n) s p
+    pub fours_there : 4 * n ≤ length s - p → Got (p + 4 * n) 0 ≡ seen none (each (λ i. number 4) 0 n) s p
     unfolding seen each told
-    fours-there h = let r = row-there 4 0 n (drop p s) (omega (arith, length-drop p s)) in rw r.is
+    fours_there h = let r = row_there 4 0 n (drop p s) (omega (arith, length-drop p s)) in rw r.is
 
     pub fours_cut : length s - p < 4 * n → cut_from p ≡ seen none (each (λ i. number 4) 0 n) s p
     unfolding seen each told
@@ -40,33 +40,33 @@ module _ (s : List ℕ) where
 
     -- r is what they were read as
     module _ {r : Read} (e : r ≡ seen none (each (λ i. number 4) 0 n) s p) where
-      pub fours-got : {m v : ℕ} → r ≡ Got m v → (4 * n ≤ length s - p) × (m ≡ p + 4 * n)
-      fours-got {m} h =
+      pub fours_got : {m v : ℕ} → r ≡ Got m v → (4 * n ≤ length s - p) × (m ≡ p + 4 * n)
+      fours_got {m} h =
           elim (dec_lt (length s - p) (4 * n)) [
             | yes l ↦ unlike h (e ∙ sym (fours_cut l))
-            | no l ↦ let w : Got (p + 4 * n) 0 ≡ r = fours-there (omega arith) ∙ sym e in (omega arith, cc)
+            | no l ↦ let w : Got (p + 4 * n) 0 ≡ r = fours_there (omega arith) ∙ sym e in (omega arith, cc)
           ]
 
-      pub fours-no : {c : Fault} {q : ℕ} → r ≡ No q c → (length s - p < 4 * n) × (r ≡ cut_from p)
-      fours-no h =
+      pub fours_no : {c : Fault} {q : ℕ} → r ≡ No q c → (length s - p < 4 * n) × (r ≡ cut_from p)
+      fours_no h =
           elim (dec_lt (length s - p) (4 * n)) [
             | yes l ↦ (l, e ∙ sym (fours_cut l))
-            | no l ↦ unlike (e ∙ sym (fours-there (omega arith))) h
+            | no l ↦ unlike (e ∙ sym (fours_there (omega arith))) h
           ]
 
   -- before other fields: one that is there is passed over, the first that is not is where they are cut
   module _ {B : Type 0} (g : ℕ × B → ℕ) (b : Format B) (p : ℕ) where
-    pub four-on : {out : Read} → 4 ≤ length s - p → ((x : ℕ) → out ≡ seen (λ y. g (x, y)) b s (p + 4)) → out ≡ seen g (seq (number 4) b) s p
+    pub four_on : {out : Read} → 4 ≤ length s - p → ((x : ℕ) → out ≡ seen (λ y. g (x, y)) b s (p + 4)) → out ≡ seen g (seq (number 4) b) s p
     unfolding seq
-    four-on h w = pair-on g (number 4) (λ x. b) s p itself (number_is 4 s p refl (omega arith)) refl w
+    four_on h w = pair_on g (number 4) (λ x. b) s p itself (number_is 4 s p refl (omega arith)) refl w
 
-    pub four-no : (n : ℕ) → length s - p < 4 * (n + 1) → (length s - (p + 4) < 4 * n → (x : ℕ) → cut_from (p + 4) ≡ seen (λ y. g (x, y)) b s (p + 4)) → cut_from p ≡ seen g (seq (number 4) b) s p
+    pub four_no : (n : ℕ) → length s - p < 4 * (n + 1) → (length s - (p + 4) < 4 * n → (x : ℕ) → cut_from (p + 4) ≡ seen (λ y. g (x, y)) b s (p + 4)) → cut_from p ≡ seen g (seq (number 4) b) s p
     unfolding seq
-    four-no n h w =
+    four_no n h w =
         elim (dec_lt (length s - p) 4) [
-          | yes l ↦ ap (λ (q : ℕ). No q Cut) (omega arith) ∙ pair_stop g (number 4) (λ x. b) s p itself (number-no 4 s p l) refl
-          | no l ↦ ap (λ (q : ℕ). No q Cut) (omega arith) ∙ four-on (omega arith) (w (omega arith))
+          | yes l ↦ ap (λ (q : ℕ). No q Cut) (omega arith) ∙ pair_stop g (number 4) (λ x. b) s p itself (number_no 4 s p l) refl
+          | no l ↦ ap (λ (q : ℕ). No q Cut) (omega arith) ∙ four_on (omega arith) (w (omega arith))
         ]
 
-  pub size-no : {A : Type 0} (g : A → ℕ) (c : Fault) (a : Format A) (p : ℕ) → length s - p < 4 → cut_from p ≡ seen g (sized c a) s p
-  size-no g c a p h = ap (λ (q : ℕ). No q Cut) (omega arith) ∙ sized_stop g c a s p (number-no 4 s p h) refl
+  pub size_no : {A : Type 0} (g : A → ℕ) (c : Fault) (a : Format A) (p : ℕ) → length s - p < 4 → cut_from p ≡ seen g (sized c a) s p
+  size_no g c a p h = ap (λ (q : ℕ). No q Cut) (omega arith) ∙ sized_stop g c a s p (number_no 4 s p h) refl

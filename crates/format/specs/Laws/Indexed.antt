@@ -17,10 +17,10 @@ use Rattle.format.specs.Combinators.{number, each}
 use Rattle.format.specs.Row.{total}
 use Rattle.format.specs.Index.{onward, values_read, indexed_read, index_write}
 use Rattle.format.specs.Indexed.{indexed}
-use Rattle.format.specs.Laws.Index.{offsets-there, indexed-long}
-use Rattle.format.specs.Laws.Seen.{told, seen, itself, unlike, told-got, told-no, told-mapped}
-use Rattle.format.specs.Laws.ReadWrite.{value-spelt}
-use Rattle.format.specs.Laws.Rows.{added, told-added, number-there}
+use Rattle.format.specs.Laws.Index.{offsets_there, indexed_long}
+use Rattle.format.specs.Laws.Seen.{told, seen, itself, unlike, told_got, told_no, told_mapped}
+use Rattle.format.specs.Laws.ReadWrite.{value_spelt}
+use Rattle.format.specs.Laws.Rows.{added, told_added, number_there}
 
 -- whether the offset of value i is p, the index standing at `origin` of the slice
 unfoldable pub offset_is : ℕ → ℕ → List ℕ → ℕ → ℕ → Bool
@@ -33,21 +33,21 @@ module _ {A : Type 0} (g : A → ℕ) (w origin : ℕ) (c : Fault) (a : ℕ → 
 
   pub index_stop : (h : List ℕ → ℕ) {r : Read} {d : Fault} {q : ℕ} → r ≡ seen h (each (λ i. number w) 0 n) s origin → r ≡ No q d → r ≡ seen (total g) (indexed w origin c a n) s origin
   unfolding seen each indexed indexed_read onward told
-  index_stop h e k = let o = told-no origin h (each_read (λ i. number w) 0 n (drop origin s)) e k in rw (o.is, zero-add, ← o.ends) k
+  index_stop h e k = let o = told_no origin h (each_read (λ i. number w) 0 n (drop origin s)) e k in rw (o.is, zero-add, ← o.ends) k
 
-  pub index-start : (h : List ℕ → ℕ) {r : Read} {m u : ℕ} → r ≡ seen h (each (λ i. number w) 0 n) s origin → r ≡ Got m u → (m ≡ origin + w * n) × ((w * n ≤ length s - origin) × (telling 0 m ≡ seen (total g) (indexed w origin c a n) s origin))
+  pub index_start : (h : List ℕ → ℕ) {r : Read} {m u : ℕ} → r ≡ seen h (each (λ i. number w) 0 n) s origin → r ≡ Got m u → (m ≡ origin + w * n) × ((w * n ≤ length s - origin) × (telling 0 m ≡ seen (total g) (indexed w origin c a n) s origin))
   unfolding seen each indexed indexed_read onward telling
-  index-start h {m = m} e k =
-      let o = told-got origin h (each_read (λ i. number w) 0 n (drop origin s)) e k in
-      let t = offsets-there w origin c a n (drop origin s) o.x o.n o.is in
+  index_start h {m = m} e k =
+      let o = told_got origin h (each_read (λ i. number w) 0 n (drop origin s)) e k in
+      let t = offsets_there w origin c a n (drop origin s) o.x o.n o.is in
       let z : n - 0 ≡ n = omega arith in
       let q : m - origin ≡ 0 + o.n = omega (arith, o.ends) in
       (omega (arith, o.ends, t.0), (omega (arith, t.1, length-drop origin s), rw (o.is, z, q)))
 
   module _ (i p : ℕ) (l : origin ≤ p) where
-    pub values-done : n ≤ i → telling i p ≡ Got p 0
+    pub values_done : n ≤ i → telling i p ≡ Got p 0
     unfolding telling values_read told total
-    values-done h =
+    values_done h =
         let z : n - i ≡ 0 = omega arith in
         let q : origin + (p - origin) ≡ p = omega arith in
         rw (z, q)
@@ -68,41 +68,41 @@ module _ {A : Type 0} (g : A → ℕ) (w origin : ℕ) (c : Fault) (a : ℕ → 
       pub values_stop : {d : Fault} {q : ℕ} → r ≡ No q d → telling i p ≡ r
       unfolding seen pick onward told
       values_stop k =
-          let o = told-no p g ((a i).read (drop p s)) e k in
+          let o = told_no p g ((a i).read (drop p s)) e k in
           let q : origin + (p - origin + o.o) ≡ p + o.o = omega arith in
           turn h ∙ rw (b, o.is, q, ← o.ends) (sym k)
 
-      pub values-go : {q v : ℕ} → r ≡ Got q v → (p ≤ q) × (telling i p ≡ added v (telling (i + 1) q))
+      pub values_go : {q v : ℕ} → r ≡ Got q v → (p ≤ q) × (telling i p ≡ added v (telling (i + 1) q))
       unfolding seen pick onward telling total
-      values-go {q} {v} k =
-          let o = told-got p g ((a i).read (drop p s)) e k in
+      values_go {q} {v} k =
+          let o = told_got p g ((a i).read (drop p s)) e k in
           let z : p - origin + o.n ≡ q - origin = omega (arith, o.ends) in
           let rest = values_read w origin c a (drop origin s) (i + 1) (n - (i + 1)) (q - origin) in
-          (omega (arith, o.ends), turn h ∙ rw (b, o.is, z) (told-mapped origin (total g) (λ xs. o.x ∷ xs) rest ∙ ap (λ (u : ℕ). told origin (λ xs. u + total g xs) rest) (sym o.tells) ∙ told-added origin v (total g) rest))
+          (omega (arith, o.ends), turn h ∙ rw (b, o.is, z) (told_mapped origin (total g) (λ xs. o.x ∷ xs) rest ∙ ap (λ (u : ℕ). told origin (λ xs. u + total g xs) rest) (sym o.tells) ∙ told_added origin v (total g) rest))
 
 -- a row that was read has as many values as it was asked for
-pub indexed-many : {A : Type 0} (w origin : ℕ) (c : Fault) (a : ℕ → Format A) (n : ℕ) (s : List ℕ) (xs : List A) (m : ℕ) → (indexed w origin c a n).read s ≡ got xs m → length xs ≡ n
+pub indexed_many : {A : Type 0} (w origin : ℕ) (c : Fault) (a : ℕ → Format A) (n : ℕ) (s : List ℕ) (xs : List A) (m : ℕ) → (indexed w origin c a n).read s ≡ got xs m → length xs ≡ n
 unfolding indexed
-indexed-many w origin c a n s xs m e = indexed-long w origin c a n s xs m e
+indexed_many w origin c a n s xs m e = indexed_long w origin c a n s xs m e
 
 -- an offset as the code reads it
 module _ (w origin : ℕ) (s : List ℕ) (i : ℕ) {o : Read} (e : o ≡ seen itself (number w) s (origin + w * i)) where
-  offset-there : w * (i + 1) ≤ length s - origin → o ≡ Got (origin + w * i + w) (value (take w (drop (w * i) (drop origin s))))
+  offset_there : w * (i + 1) ≤ length s - origin → o ≡ Got (origin + w * i + w) (value (take w (drop (w * i) (drop origin s))))
   unfolding seen told
-  offset-there h =
+  offset_there h =
       let d = drop-drop (w * i) origin s in
       let t : w ≤ length (drop (w * i) (drop origin s)) = omega (arith, length-drop (w * i) (drop origin s), length-drop origin s, mul-suc w i) in
-      e ∙ rw (← d, number-there w (drop (w * i) (drop origin s)) t)
+      e ∙ rw (← d, number_there w (drop (w * i) (drop origin s)) t)
 
-  pub offset-never : {B : Type 0} {d : Fault} {q : ℕ} → w * (i + 1) ≤ length s - origin → o ≡ No q d → B
-  offset-never h k = unlike (offset-there h) k
+  pub offset_never : {B : Type 0} {d : Fault} {q : ℕ} → w * (i + 1) ≤ length s - origin → o ≡ No q d → B
+  offset_never h k = unlike (offset_there h) k
 
-  pub offset-is : (p : ℕ) {m x : ℕ} → w * (i + 1) ≤ length s - origin → p < 256 ^ w → o ≡ Got m x → eqb x p ≡ offset_is w origin s i p
+  pub offset_is_lem : (p : ℕ) {m x : ℕ} → w * (i + 1) ≤ length s - origin → p < 256 ^ w → o ≡ Got m x → eqb x p ≡ offset_is w origin s i p
   unfolding offset_is
-  offset-is p {m} {x} h l k =
-      let u : Got m x ≡ Got (origin + w * i + w) (value (take w (drop (w * i) (drop origin s)))) = sym k ∙ offset-there h in
+  offset_is_lem p {m} {x} h l k =
+      let u : Got m x ≡ Got (origin + w * i + w) (value (take w (drop (w * i) (drop origin s)))) = sym k ∙ offset_there h in
       let y : x ≡ value (take w (drop (w * i) (drop origin s))) = cc in
-      rw (value-spelt w p l, ← y)
+      rw (value_spelt w p l, ← y)
 
 -- an offset of no bytes is every place
 pub no_offset : (origin : ℕ) (s : List ℕ) (i p : ℕ) → offset_is 0 origin s i p ≡ true
@@ -112,13 +112,13 @@ no_offset origin s i p = refl
 -- ---- the index as it is written
 module _ {A : Type 0} (w origin : ℕ) (c : Fault) where
   -- alike where the values are as long
-  pub index-alike : (a b : ℕ → Format A) (i p : ℕ) (xs : List A) → ((n : ℕ) (x : A) → length ((a (i + n)).write x) ≡ length ((b (i + n)).write x)) → index_write w origin c a i p xs ≡ index_write w origin c b i p xs
+  pub index_alike : (a b : ℕ → Format A) (i p : ℕ) (xs : List A) → ((n : ℕ) (x : A) → length ((a (i + n)).write x) ≡ length ((b (i + n)).write x)) → index_write w origin c a i p xs ≡ index_write w origin c b i p xs
   unfolding index_write
-  index-alike a b i p [] h = refl
-  index-alike a b i p (x ∷ xs) h =
+  index_alike a b i p [] h = refl
+  index_alike a b i p (x ∷ xs) h =
       let e : length ((a i).write x) ≡ length ((b i).write x) = rw add-zero at (h 0 x) in
       let k : (n : ℕ) (y : A) → length ((a (i + 1 + n)).write y) ≡ length ((b (i + 1 + n)).write y) = λ n y. let z : i + (1 + n) ≡ i + 1 + n = omega arith in rw z at (h (1 + n) y) in
-      ap (λ (t : List ℕ). spelt w (origin + p) ++ t) (ap (λ (l : ℕ). index_write w origin c a (i + 1) (p + l) xs) e ∙ index-alike a b (i + 1) (p + length ((b i).write x)) xs k)
+      ap (λ (t : List ℕ). spelt w (origin + p) ++ t) (ap (λ (l : ℕ). index_write w origin c a (i + 1) (p + l) xs) e ∙ index_alike a b (i + 1) (p + length ((b i).write x)) xs k)
 
   -- the same where a value becomes one as long, or the last becomes another
   pub index_kept : (a : ℕ → Format A) (i p k : ℕ) (xs later : List A) (x y : A) → drop k xs ≡ x ∷ later → (0 < length later → length ((a (i + k)).write y) ≡ length ((a (i + k)).write x)) → index_write w origin c a i p (take k xs ++ (y ∷ later)) ≡ index_write w origin c a i p xs

@@ -14,7 +14,7 @@ use borrow.Author.Tests.{le-leb, lt-leb, leb-true, eqb-true, eqb-false}
 use Rattle.format.specs.declared.Fault.{Fault}
 use Rattle.format.specs.declared.Fault.TheVariants.{Cut}
 use Rattle.format.specs.Format.{Answer, got, refused, shift, mapped, and_then, end_of, pick, Bytes, Found, Format}
-use Rattle.format.specs.Laws.Format.{bytes_drop, bytes_take, bytes-append, apart, went, mapped-got, end-mapped, end_then}
+use Rattle.format.specs.Laws.Format.{bytes_drop, bytes_take, bytes_append, apart, went, mapped_got, end_mapped, end_then}
 use Rattle.format.specs.ReadWrite.{pair_read, pair_write, PairFit, judge, judge_of, JudgedFit, ViaFit, home, value, spelt, number_read, within, bit, each_read, each_write, AllFit, EachFit, weighed, WeighedFit}
 
 -- two runs of bytes that were found one behind the other, as one
@@ -29,16 +29,16 @@ joined {v = v} {w = w} s {x} {y} {n} {j} {m} f g e =
 
 -- ---- one after the other
 module _ {A B : Type 0} (a : Format A) (b : A → Format B) where
-  pub pair-back : (p : A × B) (t : List ℕ) → PairFit a b p → pair_read a b (pair_write a b p ++ t) ≡ got p (length (pair_write a b p))
+  pub pair_back : (p : A × B) (t : List ℕ) → PairFit a b p → pair_read a b (pair_write a b p ++ t) ≡ got p (length (pair_write a b p))
   unfolding pair_read pair_write and_then mapped shift
-  pair-back p t f =
+  pair_back p t f =
       rw (append_assoc, a.back p.0 ((b p.0).write p.1 ++ t) f.0, drop-append_seam, (b p.0).back p.1 t f.1, length-append)
 
-  pub pair-forth : (s : List ℕ) (p : A × B) (m : ℕ) → Bytes s → pair_read a b s ≡ got p m → Found (pair_write a b) (PairFit a b) s p m
+  pub pair_forth : (s : List ℕ) (p : A × B) (m : ℕ) → Bytes s → pair_read a b s ≡ got p m → Found (pair_write a b) (PairFit a b) s p m
   unfolding pair_read pair_write
-  pair-forth s p m bs e =
+  pair_forth s p m bs e =
       let w = went (a.read s) (λ x n. mapped (λ y. (x, y)) ((b x).read (drop n s))) p m e in
-      let v = mapped-got (λ y. (w.x, y)) ((b w.x).read (drop w.n s)) p w.j w.rest in
+      let v = mapped_got (λ y. (w.x, y)) ((b w.x).read (drop w.n s)) p w.j w.rest in
       let f = a.forth s w.x w.n bs w.first in
       let g = (b w.x).forth (drop w.n s) v.0 w.j (bytes_drop w.n s bs) v.1.0 in
       let h = joined s f g w.sum in
@@ -46,21 +46,21 @@ module _ {A B : Type 0} (a : Format A) (b : A → Format B) where
 
   pub pair_inside : (s : List ℕ) → end_of (pair_read a b s) ≤ length s
   unfolding pair_read
-  pair_inside s = end_then s (a.read s) _ (a.inside s) (λ x n. rw end-mapped ((b x).inside (drop n s)))
+  pair_inside s = end_then s (a.read s) _ (a.inside s) (λ x n. rw end_mapped ((b x).inside (drop n s)))
 
-  pub pair-spells : (p : A × B) → Bytes (pair_write a b p)
+  pub pair_spells : (p : A × B) → Bytes (pair_write a b p)
   unfolding pair_write
-  pair-spells p = bytes-append (a.write p.0) ((b p.0).write p.1) (a.spells p.0) ((b p.0).spells p.1)
+  pair_spells p = bytes_append (a.write p.0) ((b p.0).write p.1) (a.spells p.0) ((b p.0).spells p.1)
 
 -- ---- judged
 module _ {A : Type 0} (ok : A → Bool) (c : Fault) (a : Format A) where
-  pub judged-back : (x : A) (t : List ℕ) → JudgedFit ok a x → judge_of ok c (a.read (a.write x ++ t)) ≡ got x (length (a.write x))
+  pub judged_back : (x : A) (t : List ℕ) → JudgedFit ok a x → judge_of ok c (a.read (a.write x ++ t)) ≡ got x (length (a.write x))
   unfolding judge_of judge
-  judged-back x t f = rw (a.back x t f.0, f.1)
+  judged_back x t f = rw (a.back x t f.0, f.1)
 
-  pub judged-forth : (s : List ℕ) (x : A) (n : ℕ) → Bytes s → judge_of ok c (a.read s) ≡ got x n → Found a.write (JudgedFit ok a) s x n
+  pub judged_forth : (s : List ℕ) (x : A) (n : ℕ) → Bytes s → judge_of ok c (a.read s) ≡ got x n → Found a.write (JudgedFit ok a) s x n
   unfolding judge_of judge
-  judged-forth s x n bs e = go (a.read s) refl e
+  judged_forth s x n bs e = go (a.read s) refl e
     where
       passed : (y : A) (m : ℕ) (b : Bool) → ok y ≡ b → a.read s ≡ got y m → judge c b y m ≡ got x n → Found a.write (JudgedFit ok a) s x n
       passed y m true eb e₁ h =
@@ -74,147 +74,147 @@ module _ {A : Type 0} (ok : A → Bool) (c : Fault) (a : Format A) where
       go (got y m) e₁ h = passed y m (ok y) refl e₁ h
       go (refused d q) e₁ h = apart (sym h)
 
-  pub judged-end : (q : Answer A) → end_of (judge_of ok c q) ≤ end_of q
+  pub judged_end : (q : Answer A) → end_of (judge_of ok c q) ≤ end_of q
   unfolding judge_of end_of judge
-  judged-end (got x n) = go (ok x)
+  judged_end (got x n) = go (ok x)
     where
       go : (b : Bool) → end_of (judge c b x n) ≤ n
       go true = omega arith
       go false = omega arith
-  judged-end (refused d q) = omega arith
+  judged_end (refused d q) = omega arith
 
 -- ---- in another guise
 module _ {A B : Type 0} (a : Format A) (to : A → B) (from : B → A) (same : (x : A) → a.Fit x → from (to x) ≡ x) where
-  pub via-back : (y : B) (t : List ℕ) → ViaFit a to from y → mapped to (a.read (a.write (from y) ++ t)) ≡ got y (length (a.write (from y)))
+  pub via_back : (y : B) (t : List ℕ) → ViaFit a to from y → mapped to (a.read (a.write (from y) ++ t)) ≡ got y (length (a.write (from y)))
   unfolding mapped
-  via-back y t f = rw (a.back (from y) t f.0, f.1)
+  via_back y t f = rw (a.back (from y) t f.0, f.1)
 
-  pub via-forth : (s : List ℕ) (y : B) (n : ℕ) → Bytes s → mapped to (a.read s) ≡ got y n → Found (λ z. a.write (from z)) (ViaFit a to from) s y n
-  via-forth s y n bs e =
-      let v = mapped-got to (a.read s) y n e in
+  pub via_forth : (s : List ℕ) (y : B) (n : ℕ) → Bytes s → mapped to (a.read s) ≡ got y n → Found (λ z. a.write (from z)) (ViaFit a to from) s y n
+  via_forth s y n bs e =
+      let v = mapped_got to (a.read s) y n e in
       let f = a.forth s v.0 n bs v.1.0 in
       let z = same v.0 f.fit in
       rw v.1.1 (record { is = rw z f.is; ends = rw z f.ends; fit = (rw z f.fit, ap to z) })
 
 -- ---- refused at the start
-home-got : {A : Type 0} (q : Answer A) (x : A) (n : ℕ) → home q ≡ got x n → q ≡ got x n
+home_got : {A : Type 0} (q : Answer A) (x : A) (n : ℕ) → home q ≡ got x n → q ≡ got x n
 unfolding home
-home-got (got y m) x n e = e
-home-got (refused c p) x n e = apart (sym e)
+home_got (got y m) x n e = e
+home_got (refused c p) x n e = apart (sym e)
 
-pub home-end : {A : Type 0} (q : Answer A) → end_of (home q) ≤ end_of q
+pub home_end : {A : Type 0} (q : Answer A) → end_of (home q) ≤ end_of q
 unfolding home end_of
-home-end (got y m) = omega arith
-home-end (refused c p) = omega arith
+home_end (got y m) = omega arith
+home_end (refused c p) = omega arith
 
 module _ {A : Type 0} (a : Format A) where
   pub start_back : (x : A) (t : List ℕ) → a.Fit x → home (a.read (a.write x ++ t)) ≡ got x (length (a.write x))
   unfolding home
   start_back x t f = rw (a.back x t f)
 
-  pub start-forth : (s : List ℕ) (x : A) (n : ℕ) → Bytes s → home (a.read s) ≡ got x n → Found a.write a.Fit s x n
-  start-forth s x n bs e = a.forth s x n bs (home-got (a.read s) x n e)
+  pub start_forth : (s : List ℕ) (x : A) (n : ℕ) → Bytes s → home (a.read s) ≡ got x n → Found a.write a.Fit s x n
+  start_forth s x n bs e = a.forth s x n bs (home_got (a.read s) x n e)
 
-  pub start-inside : (s : List ℕ) → end_of (home (a.read s)) ≤ length s
-  start-inside s = omega (arith, home-end (a.read s), a.inside s)
+  pub start_inside : (s : List ℕ) → end_of (home (a.read s)) ≤ length s
+  start_inside s = omega (arith, home_end (a.read s), a.inside s)
 
 -- ---- no bytes
-pub nothing-forth : (s : List ℕ) (x : Unit {0}) (n : ℕ) → Bytes s → ◌≡◌ {A = Answer (Unit {0})} (got tt 0) (got x n) → Found {A = Unit {0}} (λ z. []) (λ z. Unit {0}) s x n
-nothing-forth s x n bs e = let z : n ≡ 0 = cc in rw z (record { is = refl; ends = refl; fit = tt })
+pub nothing_forth : (s : List ℕ) (x : Unit {0}) (n : ℕ) → Bytes s → ◌≡◌ {A = Answer (Unit {0})} (got tt 0) (got x n) → Found {A = Unit {0}} (λ z. []) (λ z. Unit {0}) s x n
+nothing_forth s x n bs e = let z : n ≡ 0 = cc in rw z (record { is = refl; ends = refl; fit = tt })
 
 -- ---- numbers
-pub length-spelt : (k n : ℕ) → length (spelt k n) ≡ k
+pub length_spelt : (k n : ℕ) → length (spelt k n) ≡ k
 unfolding spelt
-length-spelt zero n = refl
-length-spelt (suc k) n = ap suc (length-spelt k (n / 256))
+length_spelt zero n = refl
+length_spelt (suc k) n = ap suc (length_spelt k (n / 256))
 
 -- with what is behind it
 pub length_before : (k n : ℕ) (w : List ℕ) → length (spelt k n ++ w) ≡ k + length w
-length_before k n w = length-append (spelt k n) w ∙ ap (λ (m : ℕ). m + length w) (length-spelt k n)
+length_before k n w = length-append (spelt k n) w ∙ ap (λ (m : ℕ). m + length w) (length_spelt k n)
 
-pub bytes-spelt : (k n : ℕ) → Bytes (spelt k n)
+pub bytes_spelt : (k n : ℕ) → Bytes (spelt k n)
 unfolding spelt Bytes
-bytes-spelt zero n = tt
-bytes-spelt (suc k) n = (omega arith, bytes-spelt k (n / 256))
+bytes_spelt zero n = tt
+bytes_spelt (suc k) n = (omega arith, bytes_spelt k (n / 256))
 
-pub value-spelt : (k n : ℕ) → n < 256 ^ k → value (spelt k n) ≡ n
+pub value_spelt : (k n : ℕ) → n < 256 ^ k → value (spelt k n) ≡ n
 unfolding value spelt
-value-spelt zero n h = omega arith
-value-spelt (suc k) n h =
+value_spelt zero n h = omega arith
+value_spelt (suc k) n h =
     let p : n < 256 ^ k * 256 = rw (← pow-suc 256 k) h in
-    let e = value-spelt k (n / 256) ((div-lt_iff_lt-mul (omega arith)).1 p) in
+    let e = value_spelt k (n / 256) ((div-lt_iff_lt-mul (omega arith)).1 p) in
     omega arith
 
-pub spelt-value : (bs : List ℕ) → Bytes bs → spelt (length bs) (value bs) ≡ bs
+pub spelt_value : (bs : List ℕ) → Bytes bs → spelt (length bs) (value bs) ≡ bs
 unfolding value spelt Bytes
-spelt-value [] h = refl
-spelt-value (b ∷ bs) h =
+spelt_value [] h = refl
+spelt_value (b ∷ bs) h =
     let l = h.0 in
     let m : (b + 256 * value bs) % 256 ≡ b = omega arith in
     let d : (b + 256 * value bs) / 256 ≡ value bs = omega arith in
-    rw (m, d, spelt-value bs h.1)
+    rw (m, d, spelt_value bs h.1)
 
-pub value-small : (bs : List ℕ) → Bytes bs → value bs < 256 ^ length bs
+pub value_small : (bs : List ℕ) → Bytes bs → value bs < 256 ^ length bs
 unfolding value Bytes
-value-small [] h = omega arith
-value-small (b ∷ bs) h = let i = value-small bs h.1 in rw pow-suc (omega (arith, h.0))
+value_small [] h = omega arith
+value_small (b ∷ bs) h = let i = value_small bs h.1 in rw pow-suc (omega (arith, h.0))
 
 module _ (k : ℕ) where
-  pub number-back : (x : ℕ) (t : List ℕ) → x < 256 ^ k → number_read k (spelt k x ++ t) ≡ got x (length (spelt k x))
+  pub number_back : (x : ℕ) (t : List ℕ) → x < 256 ^ k → number_read k (spelt k x ++ t) ≡ got x (length (spelt k x))
   unfolding number_read pick
-  number-back x t h =
-      let l = length-spelt k x in
+  number_back x t h =
+      let l = length_spelt k x in
       let n : k ≤ length (spelt k x ++ t) = omega (arith, length-append (spelt k x) t) in
       let w : take k (spelt k x ++ t) ≡ spelt k x = ap (λ (j : ℕ). take j (spelt k x ++ t)) (sym l) ∙ take-append_seam (spelt k x) t in
-      rw (le-leb k (length (spelt k x ++ t)) n, w, value-spelt k x h, l)
+      rw (le-leb k (length (spelt k x ++ t)) n, w, value_spelt k x h, l)
 
-  pub number-forth : (s : List ℕ) (x n : ℕ) → Bytes s → number_read k s ≡ got x n → Found (spelt k) (λ y. y < 256 ^ k) s x n
+  pub number_forth : (s : List ℕ) (x n : ℕ) → Bytes s → number_read k s ≡ got x n → Found (spelt k) (λ y. y < 256 ^ k) s x n
   unfolding number_read pick
-  number-forth s x n bs e = go (leb k (length s)) refl e
+  number_forth s x n bs e = go (leb k (length s)) refl e
     where
       go : (b : Bool) → leb k (length s) ≡ b → pick b (got (value (take k s)) k) (refused Cut 0) ≡ got x n → Found (spelt k) (λ y. y < 256 ^ k) s x n
       go true eb h =
           let l : length (take k s) ≡ k = length-take-le k s (leb-true k (length s) eb) in
           let bt = bytes_take k s bs in
-          let w : spelt k (value (take k s)) ≡ take k s = ap (λ (j : ℕ). spelt j (value (take k s))) (sym l) ∙ spelt-value (take k s) bt in
+          let w : spelt k (value (take k s)) ≡ take k s = ap (λ (j : ℕ). spelt j (value (take k s))) (sym l) ∙ spelt_value (take k s) bt in
           let ex : x ≡ value (take k s) = cc in
           let en : n ≡ k = cc in
           rw (ex, en)
-          (record { is = sym (rw w (take-append-drop k s)); ends = sym (length-spelt k (value (take k s))); fit = rw l at (value-small (take k s) bt) })
+          (record { is = sym (rw w (take-append-drop k s)); ends = sym (length_spelt k (value (take k s))); fit = rw l at (value_small (take k s) bt) })
       go false eb h = apart (sym h)
 
-  pub number-inside : (s : List ℕ) → end_of (number_read k s) ≤ length s
+  pub number_inside : (s : List ℕ) → end_of (number_read k s) ≤ length s
   unfolding number_read pick end_of
-  number-inside s = go (leb k (length s)) refl
+  number_inside s = go (leb k (length s)) refl
     where
       go : (b : Bool) → leb k (length s) ≡ b → end_of (pick b (got (value (take k s)) k) (refused Cut 0)) ≤ length s
       go true eb = leb-true k (length s) eb
       go false eb = omega arith
 
-pub bit-eqb : (n : ℕ) → n ≤ 1 → bit (eqb n 1) ≡ n
+pub bit_eqb : (n : ℕ) → n ≤ 1 → bit (eqb n 1) ≡ n
 unfolding bit pick
-bit-eqb n h = go (eqb n 1) refl
+bit_eqb n h = go (eqb n 1) refl
   where
     go : (b : Bool) → eqb n 1 ≡ b → pick b 1 0 ≡ n
     go true e = sym (eqb-true n 1 e)
     go false e = omega (arith, eqb-false n 1 e)
 
-pub eqb-bit : (b : Bool) → eqb (bit b) 1 ≡ b
+pub eqb_bit : (b : Bool) → eqb (bit b) 1 ≡ b
 unfolding bit pick
-eqb-bit true = refl
-eqb-bit false = refl
+eqb_bit true = refl
+eqb_bit false = refl
 
 -- ---- the number that one byte spells; that j bytes and then k bytes spell
-pub value-one : (s : List ℕ) (at : ℕ) → at < length s → value (take 1 (drop at s)) ≡ get_or s at 0
+pub value_one : (s : List ℕ) (at : ℕ) → at < length s → value (take 1 (drop at s)) ≡ get_or s at 0
 unfolding value
-value-one s at h = rw (drop-cons s at 0) (omega arith)
+value_one s at h = rw (drop-cons s at 0) (omega arith)
 
-value-append : (xs ys : List ℕ) → value (xs ++ ys) ≡ value xs + 256 ^ length xs * value ys
+value_append : (xs ys : List ℕ) → value (xs ++ ys) ≡ value xs + 256 ^ length xs * value ys
 unfolding value
-value-append [] ys = omega arith
-value-append (x ∷ xs) ys =
+value_append [] ys = omega arith
+value_append (x ∷ xs) ys =
     let e : 256 ^ suc (length xs) * value ys ≡ 256 * (256 ^ length xs * value ys) = rw (pow-suc, mul_comm (256 ^ length xs) 256, mul_assoc) in
-    let i = value-append xs ys in
+    let i = value_append xs ys in
     omega (arith, e)
 
 pub value_join : (j k : ℕ) (s : List ℕ) (at : ℕ) {x y : ℕ} → x ≡ value (take j (drop at s)) → y ≡ value (take k (drop (at + j) s)) → at + j ≤ length s
@@ -222,16 +222,16 @@ pub value_join : (j k : ℕ) (s : List ℕ) (at : ℕ) {x y : ℕ} → x ≡ val
 value_join j k s at {x} {y} ex ey h =
     let l : length (take j (drop at s)) ≡ j = length-take-le j (drop at s) (omega (arith, length-drop at s)) in
     let d : y ≡ value (take k (drop j (drop at s))) = rw drop-drop ey in
-    rw (take-add j k (drop at s), value-append, l, ← ex, ← d)
+    rw (take-add j k (drop at s), value_append, l, ← ex, ← d)
 
 -- a count within its range
-pub within-fits : (low high n : ℕ) → low ≤ n → n ≤ high → within low high n ≡ true
+pub within_fits : (low high n : ℕ) → low ≤ n → n ≤ high → within low high n ≡ true
 unfolding within
-within-fits low high n f g = rw (le-leb low n f, le-leb n high g)
+within_fits low high n f g = rw (le-leb low n f, le-leb n high g)
 
 -- what the code's branches say of a range
 pub in_range : (low high : ℕ) {n : ℕ} → low ≤ n → n ≤ high → true ≡ within low high n
-in_range low high {n} f g = sym (within-fits low high n f g)
+in_range low high {n} f g = sym (within_fits low high n f g)
 
 pub under_range : (low high : ℕ) {n : ℕ} → n < low → false ≡ within low high n
 unfolding within
@@ -241,9 +241,9 @@ pub over_range : (low high : ℕ) {n : ℕ} → low ≤ n → high < n → false
 unfolding within
 over_range low high {n} f g = rw (le-leb low n f, lt-leb n high g)
 
-pub within-is : (low high n : ℕ) → within low high n ≡ true → (low ≤ n) × (n ≤ high)
+pub within_is : (low high n : ℕ) → within low high n ≡ true → (low ≤ n) × (n ≤ high)
 unfolding within
-within-is low high n e = go (leb low n) refl e
+within_is low high n e = go (leb low n) refl e
   where
     go : (b : Bool) → leb low n ≡ b → (b && leb n high) ≡ true → (low ≤ n) × (n ≤ high)
     go true l h = (leb-true low n l, leb-true n high h)
@@ -260,29 +260,29 @@ module _ {A : Type 0} (a : ℕ → Format A) where
       let l : length xs ≡ k = omega arith in
       rw (append_assoc, (a i).back x (each_write a (i + 1) xs ++ t) f.1.0, drop-append_seam, each_back (i + 1) k xs t (l, f.1.1), length-append)
 
-  pub each-forth : (i k : ℕ) (s : List ℕ) (xs : List A) (m : ℕ) → Bytes s → each_read a i k s ≡ got xs m → Found (each_write a i) (EachFit a i k) s xs m
+  pub each_forth : (i k : ℕ) (s : List ℕ) (xs : List A) (m : ℕ) → Bytes s → each_read a i k s ≡ got xs m → Found (each_write a i) (EachFit a i k) s xs m
   unfolding each_read each_write AllFit
-  each-forth i zero s xs m bs e =
+  each_forth i zero s xs m bs e =
       let z : m ≡ 0 = cc in
       let y : xs ≡ [] = cc in
       rw (z, y) (record { is = refl; ends = refl; fit = (refl, tt) })
-  each-forth i (suc k) s xs m bs e =
+  each_forth i (suc k) s xs m bs e =
       let w = went ((a i).read s) (λ x n. mapped (λ xs. x ∷ xs) (each_read a (i + 1) k (drop n s))) xs m e in
-      let v = mapped-got (λ xs. w.x ∷ xs) (each_read a (i + 1) k (drop w.n s)) xs w.j w.rest in
+      let v = mapped_got (λ xs. w.x ∷ xs) (each_read a (i + 1) k (drop w.n s)) xs w.j w.rest in
       let f = (a i).forth s w.x w.n bs w.first in
-      let g = each-forth (i + 1) k (drop w.n s) v.0 w.j (bytes_drop w.n s bs) v.1.0 in
+      let g = each_forth (i + 1) k (drop w.n s) v.0 w.j (bytes_drop w.n s bs) v.1.0 in
       let h = joined s f g w.sum in
       rw v.1.1 (record { is = h.is; ends = h.ends; fit = (ap suc g.fit.0, (f.fit, g.fit.1)) })
 
-  pub each-inside : (i k : ℕ) (s : List ℕ) → end_of (each_read a i k s) ≤ length s
+  pub each_inside : (i k : ℕ) (s : List ℕ) → end_of (each_read a i k s) ≤ length s
   unfolding each_read end_of
-  each-inside i zero s = omega arith
-  each-inside i (suc k) s = end_then s ((a i).read s) _ ((a i).inside s) (λ x n. rw end-mapped (each-inside (i + 1) k (drop n s)))
+  each_inside i zero s = omega arith
+  each_inside i (suc k) s = end_then s ((a i).read s) _ ((a i).inside s) (λ x n. rw end_mapped (each_inside (i + 1) k (drop n s)))
 
-  pub each-spells : (i : ℕ) (xs : List A) → Bytes (each_write a i xs)
+  pub each_spells : (i : ℕ) (xs : List A) → Bytes (each_write a i xs)
   unfolding each_write Bytes
-  each-spells i [] = tt
-  each-spells i (x ∷ xs) = bytes-append ((a i).write x) (each_write a (i + 1) xs) ((a i).spells x) (each-spells (i + 1) xs)
+  each_spells i [] = tt
+  each_spells i (x ∷ xs) = bytes_append ((a i).write x) (each_write a (i + 1) xs) ((a i).spells x) (each_spells (i + 1) xs)
 
 -- ---- rows that are written
 pub each_append : {A : Type 0} (a : ℕ → Format A) (i : ℕ) (xs ys : List A) → each_write a i (xs ++ ys) ≡ each_write a i xs ++ each_write a (i + length xs) ys
@@ -293,13 +293,13 @@ each_append a i (x ∷ xs) ys =
     rw (each_append a (i + 1) xs ys, e) (sym (append_assoc ((a i).write x) (each_write a (i + 1) xs) (each_write a (i + suc (length xs)) ys)))
 
 -- formats that write alike write the same row
-pub each-alike : {A : Type 0} (a b : ℕ → Format A) (i j : ℕ) (xs : List A) → ((n : ℕ) (x : A) → (a (i + n)).write x ≡ (b (j + n)).write x) → each_write a i xs ≡ each_write b j xs
+pub each_alike : {A : Type 0} (a b : ℕ → Format A) (i j : ℕ) (xs : List A) → ((n : ℕ) (x : A) → (a (i + n)).write x ≡ (b (j + n)).write x) → each_write a i xs ≡ each_write b j xs
 unfolding each_write
-each-alike a b i j [] h = refl
-each-alike a b i j (x ∷ xs) h =
+each_alike a b i j [] h = refl
+each_alike a b i j (x ∷ xs) h =
     let f : (a i).write x ≡ (b j).write x = rw (add-zero, add-zero) at (h 0 x) in
     let g : (n : ℕ) (y : _) → (a (i + 1 + n)).write y ≡ (b (j + 1 + n)).write y = λ n y. rw (add_assoc, add_assoc) (h (1 + n) y) in
-    rw (f, each-alike a b (i + 1) (j + 1) xs g)
+    rw (f, each_alike a b (i + 1) (j + 1) xs g)
 
 -- ---- rows that fit
 module _ {A : Type 0} (a : ℕ → Format A) where
@@ -321,19 +321,19 @@ module _ {A : Type 0} (a : ℕ → Format A) where
   all_drop i (suc k) (x ∷ xs) f = let e : i + suc k ≡ i + 1 + k = omega arith in rw e (all_drop (i + 1) k xs f.1)
 
 -- ---- values with the number of their bytes
-pub end-weighed : {A : Type 0} (q : Answer A) → end_of (weighed q) ≡ end_of q
+pub end_weighed : {A : Type 0} (q : Answer A) → end_of (weighed q) ≡ end_of q
 unfolding weighed end_of
-end-weighed (got x n) = refl
-end-weighed (refused c p) = refl
+end_weighed (got x n) = refl
+end_weighed (refused c p) = refl
 
 module _ {A : Type 0} (a : Format A) where
-  pub weighed-back : (p : A × ℕ) (t : List ℕ) → WeighedFit a p → weighed (a.read (a.write p.0 ++ t)) ≡ got p (length (a.write p.0))
+  pub weighed_back : (p : A × ℕ) (t : List ℕ) → WeighedFit a p → weighed (a.read (a.write p.0 ++ t)) ≡ got p (length (a.write p.0))
   unfolding weighed
-  weighed-back p t f = rw (a.back p.0 t f.0, ← f.1)
+  weighed_back p t f = rw (a.back p.0 t f.0, ← f.1)
 
-  pub weighed-forth : (s : List ℕ) (p : A × ℕ) (n : ℕ) → Bytes s → weighed (a.read s) ≡ got p n → Found (λ z. a.write z.0) (WeighedFit a) s p n
+  pub weighed_forth : (s : List ℕ) (p : A × ℕ) (n : ℕ) → Bytes s → weighed (a.read s) ≡ got p n → Found (λ z. a.write z.0) (WeighedFit a) s p n
   unfolding weighed
-  weighed-forth s p n bs e = go (a.read s) refl e
+  weighed_forth s p n bs e = go (a.read s) refl e
     where
       go : (q : Answer A) → a.read s ≡ q → weighed q ≡ got p n → Found (λ z. a.write z.0) (WeighedFit a) s p n
       go (got x m) h k =

@@ -12,7 +12,7 @@ use Rattle.format.specs.declared.Read.TheVariants.{Got, No}
 use Rattle.format.specs.Format.{Answer, got, refused, shift, mapped, and_then, pick, Format, Bytes}
 use Rattle.format.specs.Laws.Format.{bytes_drop, bytes_take, apart}
 use Rattle.format.specs.ReadWrite.{pair_read, judge_of, judge, home, number_read, within, bit, value}
-use Rattle.format.specs.Laws.ReadWrite.{bit-eqb, value-small, value_join}
+use Rattle.format.specs.Laws.ReadWrite.{bit_eqb, value_small, value_join}
 use Rattle.format.specs.Combinators.{pair, seq, ◌then◌, judged, via, at_start, nothing, number, count, fixed, flag}
 
 -- an answer as the code gives it: what f tells of the value, and the place past it
@@ -38,8 +38,8 @@ pub unlike : {B : Type 0} {r : Read} {v m p : ℕ} {c : Fault} → r ≡ Got m v
 unlike e h = absurd (let z : ◌≡◌ {A = ℕ} 0 1 = cc in omega arith)
 
 -- the same value, ending at the same place
-pub got-at : {v a b : ℕ} → a ≡ b → Got a v ≡ Got b v
-got-at {v} e = ap (λ (p : ℕ). Got p v) e
+pub got_at : {v a b : ℕ} → a ≡ b → Got a v ≡ Got b v
+got_at {v} e = ap (λ (p : ℕ). Got p v) e
 
 pub record Valued {A : Type 0} (at : ℕ) (f : A → ℕ) (q : Answer A) (v m : ℕ) : Type 0 where
   pub x : A
@@ -48,30 +48,30 @@ pub record Valued {A : Type 0} (at : ℕ) (f : A → ℕ) (q : Answer A) (v m : 
   pub tells : v ≡ f x
   pub ends : m ≡ at + n
 
-pub told-got : {A : Type 0} (at : ℕ) (f : A → ℕ) (q : Answer A) {r : Read} {v m : ℕ} → r ≡ told at f q → r ≡ Got m v → Valued at f q v m
+pub told_got : {A : Type 0} (at : ℕ) (f : A → ℕ) (q : Answer A) {r : Read} {v m : ℕ} → r ≡ told at f q → r ≡ Got m v → Valued at f q v m
 unfolding told
-told-got at f (got x n) e h = record { x = x; n = n; is = refl; tells = (cc); ends = (cc) }
-told-got at f (refused d o) e h = unlike h e
+told_got at f (got x n) e h = record { x = x; n = n; is = refl; tells = (cc); ends = (cc) }
+told_got at f (refused d o) e h = unlike h e
 
 pub record Faulty {A : Type 0} (at : ℕ) (q : Answer A) (c : Fault) (p : ℕ) : Type 0 where
   pub o : ℕ
   pub is : q ≡ refused c o
   pub ends : p ≡ at + o
 
-pub told-no : {A : Type 0} (at : ℕ) (f : A → ℕ) (q : Answer A) {r : Read} {c : Fault} {p : ℕ} → r ≡ told at f q → r ≡ No p c → Faulty at q c p
+pub told_no : {A : Type 0} (at : ℕ) (f : A → ℕ) (q : Answer A) {r : Read} {c : Fault} {p : ℕ} → r ≡ told at f q → r ≡ No p c → Faulty at q c p
 unfolding told
-told-no at f (got x n) e h = unlike e h
-told-no at f (refused d o) e h = record { o = o; is = (cc); ends = (cc) }
+told_no at f (got x n) e h = unlike e h
+told_no at f (refused d o) e h = record { o = o; is = (cc); ends = (cc) }
 
-pub told-shift : {A : Type 0} (at n : ℕ) (f : A → ℕ) (q : Answer A) → told at f (shift n q) ≡ told (at + n) f q
+pub told_shift : {A : Type 0} (at n : ℕ) (f : A → ℕ) (q : Answer A) → told at f (shift n q) ≡ told (at + n) f q
 unfolding told shift
-told-shift at n f (got x m) = rw add_assoc
-told-shift at n f (refused c p) = rw add_assoc
+told_shift at n f (got x m) = rw add_assoc
+told_shift at n f (refused c p) = rw add_assoc
 
-pub told-mapped : {A B : Type 0} (at : ℕ) (g : B → ℕ) (h : A → B) (q : Answer A) → told at g (mapped h q) ≡ told at (λ x. g (h x)) q
+pub told_mapped : {A B : Type 0} (at : ℕ) (g : B → ℕ) (h : A → B) (q : Answer A) → told at g (mapped h q) ≡ told at (λ x. g (h x)) q
 unfolding told mapped
-told-mapped at g h (got x m) = refl
-told-mapped at g h (refused c p) = refl
+told_mapped at g h (got x m) = refl
+told_mapped at g h (refused c p) = refl
 
 -- ---- the same reading, told otherwise
 
@@ -81,9 +81,9 @@ told_nothing (Got n v) = Got n 0
 told_nothing (No p c) = No p c
 
 module _ {A : Type 0} (f : A → ℕ) (a : Format A) (s : List ℕ) (at : ℕ) {r : Read} where
-  pub untold-is : {x : Read} → r ≡ seen f a s at → x ≡ told_nothing r → x ≡ seen none a s at
+  pub untold_is : {x : Read} → r ≡ seen f a s at → x ≡ told_nothing r → x ≡ seen none a s at
   unfolding seen told
-  untold-is e o = o ∙ ap told_nothing e ∙ go (a.read (drop at s))
+  untold_is e o = o ∙ ap told_nothing e ∙ go (a.read (drop at s))
     where
       go : (q : Answer A) → told_nothing (told at f q) ≡ told at none q
       go (got x n) = refl
@@ -92,46 +92,46 @@ module _ {A : Type 0} (f : A → ℕ) (a : Format A) (s : List ℕ) (at : ℕ) {
   -- one thing is told, whatever the value
   pub told_is : (g : A → ℕ) {out : Read} {v w m : ℕ} → r ≡ seen f a s at → r ≡ Got m v → out ≡ Got m w → ((x : A) → w ≡ g x) → out ≡ seen g a s at
   unfolding seen told
-  told_is g e h o t = let i = told-got at f (a.read (drop at s)) e h in rw (i.is, ← t i.x, ← i.ends) o
+  told_is g e h o t = let i = told_got at f (a.read (drop at s)) e h in rw (i.is, ← t i.x, ← i.ends) o
 
   -- a refusal is the same, whatever is told
-  pub refused-is : (g : A → ℕ) {c : Fault} {p : ℕ} → r ≡ seen f a s at → r ≡ No p c → r ≡ seen g a s at
+  pub refused_is : (g : A → ℕ) {c : Fault} {p : ℕ} → r ≡ seen f a s at → r ≡ No p c → r ≡ seen g a s at
   unfolding seen told
-  refused-is g e h = let i = told-no at f (a.read (drop at s)) e h in rw (i.is, ← i.ends) h
+  refused_is g e h = let i = told_no at f (a.read (drop at s)) e h in rw (i.is, ← i.ends) h
 
 -- ---- one after the other: r is what the first reader said
 
 module _ {A B : Type 0} (g : B → ℕ) (q : Answer A) (k : A → ℕ → Answer B) (at : ℕ) (f : A → ℕ) where
   pub on_stop : {r : Read} {c : Fault} {p : ℕ} → r ≡ told at f q → r ≡ No p c → r ≡ told at g (and_then q k)
   unfolding told and_then
-  on_stop e h = let i = told-no at f q e h in rw (i.is, ← i.ends) h
+  on_stop e h = let i = told_no at f q e h in rw (i.is, ← i.ends) h
 
   pub on_go : {r out : Read} {v m : ℕ} → r ≡ told at f q → r ≡ Got m v
       → ((x : A) (n : ℕ) → v ≡ f x → m ≡ at + n → out ≡ told (at + n) g (k x n)) → out ≡ told at g (and_then q k)
   unfolding and_then
-  on_go e h w = let i = told-got at f q e h in rw i.is (w i.x i.n i.tells i.ends ∙ sym (told-shift at i.n g (k i.x i.n)))
+  on_go e h w = let i = told_got at f q e h in rw i.is (w i.x i.n i.tells i.ends ∙ sym (told_shift at i.n g (k i.x i.n)))
 
 module _ {A B : Type 0} (g : A × B → ℕ) (a : Format A) (b : A → Format B) (s : List ℕ) (at : ℕ) where
   second : {out : Read} (x : A) (m n : ℕ) → m ≡ at + n → out ≡ told m (λ y. g (x, y)) ((b x).read (drop m s))
       → out ≡ told (at + n) g (mapped (λ y. (x, y)) ((b x).read (drop n (drop at s))))
-  second x m n e o = o ∙ rw (e, drop-drop n at s) (sym (told-mapped (at + n) g (λ y. (x, y)) ((b x).read (drop (at + n) s))))
+  second x m n e o = o ∙ rw (e, drop-drop n at s) (sym (told_mapped (at + n) g (λ y. (x, y)) ((b x).read (drop (at + n) s))))
 
   pub pair_stop : (f : A → ℕ) {r : Read} {c : Fault} {p : ℕ} → r ≡ seen f a s at → r ≡ No p c → r ≡ seen g (pair a b) s at
   unfolding seen pair pair_read
   pair_stop f e h = on_stop _ _ _ at f e h
 
   -- whatever the first value is
-  pub pair-on : (f : A → ℕ) {r out : Read} {v m : ℕ} → r ≡ seen f a s at → r ≡ Got m v
+  pub pair_on : (f : A → ℕ) {r out : Read} {v m : ℕ} → r ≡ seen f a s at → r ≡ Got m v
       → ((x : A) → out ≡ seen (λ y. g (x, y)) (b x) s m) → out ≡ seen g (pair a b) s at
   unfolding seen pair pair_read
-  pair-on f {m = m} e h w = on_go g _ _ at f e h (λ x n ev em. second x m n em (w x))
+  pair_on f {m = m} e h w = on_go g _ _ at f e h (λ x n ev em. second x m n em (w x))
 
 -- the first value is a number, by which the second format goes
 module _ {B : Type 0} (g : ℕ × B → ℕ) (a : Format ℕ) (b : ℕ → Format B) (s : List ℕ) (at : ℕ) where
-  pub pair-go : {r out : Read} {v m : ℕ} → r ≡ seen itself a s at → r ≡ Got m v
+  pub pair_go : {r out : Read} {v m : ℕ} → r ≡ seen itself a s at → r ≡ Got m v
       → out ≡ seen (λ y. g (v, y)) (b v) s m → out ≡ seen g (pair a b) s at
   unfolding seen pair pair_read
-  pair-go {m = m} e h w = on_go g _ _ at itself e h (λ x n ev em. second g a b s at x m n em (rw ev at w))
+  pair_go {m = m} e h w = on_go g _ _ at itself e h (λ x n ev em. second g a b s at x m n em (rw ev at w))
 
 -- the second format does not go by the first value, and of both nothing is told
 module _ {A B : Type 0} (a : Format A) (b : Format B) (s : List ℕ) (at : ℕ) where
@@ -139,49 +139,49 @@ module _ {A B : Type 0} (a : Format A) (b : Format B) (s : List ℕ) (at : ℕ) 
   unfolding seq
   seq_stop f e h = pair_stop none a (λ x. b) s at f e h
 
-  pub seq-go : (f : A → ℕ) {r out : Read} {v m : ℕ} → r ≡ seen f a s at → r ≡ Got m v → out ≡ seen none b s m → out ≡ seen none (seq a b) s at
+  pub seq_go : (f : A → ℕ) {r out : Read} {v m : ℕ} → r ≡ seen f a s at → r ≡ Got m v → out ≡ seen none b s m → out ≡ seen none (seq a b) s at
   unfolding seq
-  seq-go f e h o = pair-on none a (λ x. b) s at f e h (λ x. o)
+  seq_go f e h o = pair_on none a (λ x. b) s at f e h (λ x. o)
 
 -- in another guise
 module _ {A B : Type 0} (g : B → ℕ) (a : Format A) (to : A → B) (from : B → A) (same : (x : A) → a.Fit x → from (to x) ≡ x) (s : List ℕ) (at : ℕ) where
-  pub via-is : {r : Read} → r ≡ seen (λ x. g (to x)) a s at → r ≡ seen g (via a to from same) s at
+  pub via_is : {r : Read} → r ≡ seen (λ x. g (to x)) a s at → r ≡ seen g (via a to from same) s at
   unfolding seen via
-  via-is e = e ∙ sym (told-mapped at g to (a.read (drop at s)))
+  via_is e = e ∙ sym (told_mapped at g to (a.read (drop at s)))
 
 -- what has no value first
 module _ {B : Type 0} (g : B → ℕ) (a : Format (Unit {0})) (b : Format B) (s : List ℕ) (at : ℕ) where
   pub then_stop : {r : Read} {c : Fault} {p : ℕ} → r ≡ seen none a s at → r ≡ No p c → r ≡ seen g (a then b) s at
   unfolding ◌then◌ seq
-  then_stop e h = via-is g (pair a (λ x. b)) (λ p. p.1) _ _ s at (pair_stop (λ p. g p.1) a (λ x. b) s at none e h)
+  then_stop e h = via_is g (pair a (λ x. b)) (λ p. p.1) _ _ s at (pair_stop (λ p. g p.1) a (λ x. b) s at none e h)
 
-  pub then-go : {r out : Read} {v m : ℕ} → r ≡ seen none a s at → r ≡ Got m v → out ≡ seen g b s m → out ≡ seen g (a then b) s at
+  pub then_go : {r out : Read} {v m : ℕ} → r ≡ seen none a s at → r ≡ Got m v → out ≡ seen g b s m → out ≡ seen g (a then b) s at
   unfolding ◌then◌ seq
-  then-go e h o = via-is g (pair a (λ x. b)) (λ p. p.1) _ _ s at (pair-on (λ p. g p.1) a (λ x. b) s at none e h (λ x. o))
+  then_go e h o = via_is g (pair a (λ x. b)) (λ p. p.1) _ _ s at (pair_on (λ p. g p.1) a (λ x. b) s at none e h (λ x. o))
 
 -- ---- a number that is judged; every fault at the start; a format that a test picks; no bytes
 
 module _ (g : ℕ → ℕ) (ok : ℕ → Bool) (c : Fault) (a : Format ℕ) (s : List ℕ) (at : ℕ) where
   pub judged_stop : {r : Read} {d : Fault} {p : ℕ} → r ≡ seen itself a s at → r ≡ No p d → r ≡ seen g (judged ok c a) s at
   unfolding seen judged judge_of told
-  judged_stop e h = let i = told-no at itself (a.read (drop at s)) e h in rw (i.is, ← i.ends) h
+  judged_stop e h = let i = told_no at itself (a.read (drop at s)) e h in rw (i.is, ← i.ends) h
 
-  pub judged-got : {r out : Read} {v m : ℕ} → r ≡ seen itself a s at → r ≡ Got m v → true ≡ ok v → out ≡ Got m (g v) → out ≡ seen g (judged ok c a) s at
+  pub judged_got : {r out : Read} {v m : ℕ} → r ≡ seen itself a s at → r ≡ Got m v → true ≡ ok v → out ≡ Got m (g v) → out ≡ seen g (judged ok c a) s at
   unfolding seen judged judge_of judge told
-  judged-got e h o w = let i = told-got at itself (a.read (drop at s)) e h in rw (i.is, ← i.tells, ← o, ← i.ends) w
+  judged_got e h o w = let i = told_got at itself (a.read (drop at s)) e h in rw (i.is, ← i.tells, ← o, ← i.ends) w
 
-  pub judged-no : {r : Read} {v m : ℕ} → r ≡ seen itself a s at → r ≡ Got m v → false ≡ ok v → No at c ≡ seen g (judged ok c a) s at
+  pub judged_no : {r : Read} {v m : ℕ} → r ≡ seen itself a s at → r ≡ Got m v → false ≡ ok v → No at c ≡ seen g (judged ok c a) s at
   unfolding seen judged judge_of judge told
-  judged-no e h o = let i = told-got at itself (a.read (drop at s)) e h in rw (i.is, ← i.tells, ← o, add-zero)
+  judged_no e h o = let i = told_got at itself (a.read (drop at s)) e h in rw (i.is, ← i.tells, ← o, add-zero)
 
 module _ {A : Type 0} (g : A → ℕ) (a : Format A) (s : List ℕ) (at : ℕ) where
-  pub start-got : {r : Read} {v m : ℕ} → r ≡ seen g a s at → r ≡ Got m v → r ≡ seen g (at_start a) s at
+  pub start_got : {r : Read} {v m : ℕ} → r ≡ seen g a s at → r ≡ Got m v → r ≡ seen g (at_start a) s at
   unfolding seen at_start home told
-  start-got e h = let i = told-got at g (a.read (drop at s)) e h in rw (i.is, ← i.tells, ← i.ends) h
+  start_got e h = let i = told_got at g (a.read (drop at s)) e h in rw (i.is, ← i.tells, ← i.ends) h
 
-  pub start-no : {r : Read} {c : Fault} {p : ℕ} → r ≡ seen g a s at → r ≡ No p c → No at c ≡ seen g (at_start a) s at
+  pub start_no : {r : Read} {c : Fault} {p : ℕ} → r ≡ seen g a s at → r ≡ No p c → No at c ≡ seen g (at_start a) s at
   unfolding seen at_start home told
-  start-no e h = let i = told-no at g (a.read (drop at s)) e h in rw (i.is, add-zero)
+  start_no e h = let i = told_no at g (a.read (drop at s)) e h in rw (i.is, add-zero)
 
 module _ {A : Type 0} (g : A → ℕ) (s : List ℕ) (at : ℕ) (t : Bool) (x y : Format A) {out : Read} where
   pub pick_yes : true ≡ t → out ≡ seen g x s at → out ≡ seen g (pick t x y) s at
@@ -222,9 +222,9 @@ module _ (k : ℕ) (s : List ℕ) (at : ℕ) where
   unfolding seen number number_read pick told
   number_is w h = let l : k ≤ length (drop at s) = omega (arith, length-drop at s) in rw (le-leb k (length (drop at s)) l, w)
 
-  pub number-no : length s - at < k → No at Cut ≡ seen itself (number k) s at
+  pub number_no : length s - at < k → No at Cut ≡ seen itself (number k) s at
   unfolding seen number number_read pick told
-  number-no h = let l : length (drop at s) < k = omega (arith, length-drop at s) in rw (lt-leb k (length (drop at s)) l, add-zero)
+  number_no h = let l : length (drop at s) < k = omega (arith, length-drop at s) in rw (lt-leb k (length (drop at s)) l, add-zero)
 
 -- a count, as the code judges the number that it read
 unfoldable pub judged_count : ℕ → ℕ → ℕ → Read → Read
@@ -240,19 +240,19 @@ module _ (at low high : ℕ) {r : Read} where
   unfolding judged_count within pick
   count_low {n} h k = sym (ap (judged_count at low high) h ∙ rw (lt-leb low n k))
 
-  pub count-high : {n m : ℕ} → r ≡ Got m n → low ≤ n → high < n → No at Count ≡ judged_count at low high r
+  pub count_high : {n m : ℕ} → r ≡ Got m n → low ≤ n → high < n → No at Count ≡ judged_count at low high r
   unfolding judged_count within pick
-  count-high {n} h k l = sym (ap (judged_count at low high) h ∙ rw (le-leb low n k, lt-leb n high l))
+  count_high {n} h k l = sym (ap (judged_count at low high) h ∙ rw (le-leb low n k, lt-leb n high l))
 
   pub count_in : {out : Read} {n m : ℕ} → r ≡ Got m n → low ≤ n → n ≤ high → out ≡ Got m n → out ≡ judged_count at low high r
   unfolding judged_count within pick
   count_in {n = n} h k l o = o ∙ sym (ap (judged_count at low high) h ∙ rw (le-leb low n k, le-leb n high l))
 
-pub ruleset counting = (refl, count_stop, count_low, count-high, count_in)
+pub ruleset counting = (refl, count_stop, count_low, count_high, count_in)
 
-pub count-is : (k low high : ℕ) (s : List ℕ) (at : ℕ) {r x : Read} → r ≡ seen itself (number k) s at → x ≡ judged_count at low high r → x ≡ seen itself (count k low high) s at
+pub count_is : (k low high : ℕ) (s : List ℕ) (at : ℕ) {r x : Read} → r ≡ seen itself (number k) s at → x ≡ judged_count at low high r → x ≡ seen itself (count k low high) s at
 unfolding seen count judged judge_of judge judged_count told pick
-count-is k low high s at e o = o ∙ ap (judged_count at low high) e ∙ go ((number k).read (drop at s))
+count_is k low high s at e o = o ∙ ap (judged_count at low high) e ∙ go ((number k).read (drop at s))
   where
     pass : (b : Bool) (n m : ℕ) → pick b (Got (at + m) n) (No at Count) ≡ told at itself (judge Count b n m)
     pass true n m = refl
@@ -276,15 +276,15 @@ module _ (at v : ℕ) (c : Fault) {r : Read} where
   unfolding judged_fixed pick
   fixed_off {n} h k = sym (ap (judged_fixed at v c) h ∙ rw (ne_eqb n v k))
 
-  pub fixed-got : {n m : ℕ} → r ≡ Got m n → n ≡ v → Got m 0 ≡ judged_fixed at v c r
+  pub fixed_got : {n m : ℕ} → r ≡ Got m n → n ≡ v → Got m 0 ≡ judged_fixed at v c r
   unfolding judged_fixed pick
-  fixed-got {n} h k = sym (ap (judged_fixed at v c) h ∙ rw (eq-eqb n v k))
+  fixed_got {n} h k = sym (ap (judged_fixed at v c) h ∙ rw (eq-eqb n v k))
 
-pub ruleset fixing = (refl, fixed_stop, fixed_off, fixed-got)
+pub ruleset fixing = (refl, fixed_stop, fixed_off, fixed_got)
 
-pub fixed-is : (k v : ℕ) (c : Fault) (s : List ℕ) (at : ℕ) {r x : Read} → r ≡ seen itself (number k) s at → x ≡ judged_fixed at v c r → x ≡ seen none (fixed k v c) s at
+pub fixed_is : (k v : ℕ) (c : Fault) (s : List ℕ) (at : ℕ) {r x : Read} → r ≡ seen itself (number k) s at → x ≡ judged_fixed at v c r → x ≡ seen none (fixed k v c) s at
 unfolding seen fixed via judged judge_of judge judged_fixed mapped told pick
-fixed-is k v c s at e o = o ∙ ap (judged_fixed at v c) e ∙ go ((number k).read (drop at s))
+fixed_is k v c s at e o = o ∙ ap (judged_fixed at v c) e ∙ go ((number k).read (drop at s))
   where
     pass : (b : Bool) (n m : ℕ) → pick b (Got (at + m) 0) (No at c) ≡ told at none (mapped {B = Unit {0}} (λ x. tt) (judge c b n m))
     pass true n m = refl
@@ -299,12 +299,12 @@ module _ (j k : ℕ) (first last : ℕ) (c : Fault) (s : List ℕ) (at : ℕ) {x
   both : x ≡ value (take j (drop at s)) → y ≡ value (take k (drop (at + j) s)) → at + (j + k) ≤ length s
       → pick (eqb (x + 256 ^ j * y) (first + 256 ^ j * last)) (Got (at + (j + k)) 0) (No at c) ≡ seen none (fixed (j + k) (first + 256 ^ j * last) c) s at
   unfolding judged_fixed
-  both ex ey h = fixed-is (j + k) (first + 256 ^ j * last) c s at (number_is (j + k) s at (value_join j k s at ex ey (omega arith)) h) refl
+  both ex ey h = fixed_is (j + k) (first + 256 ^ j * last) c s at (number_is (j + k) s at (value_join j k s at ex ey (omega arith)) h) refl
 
-  pub parts-got : x ≡ value (take j (drop at s)) → y ≡ value (take k (drop (at + j) s)) → at + (j + k) ≤ length s → x ≡ first → y ≡ last
+  pub parts_got : x ≡ value (take j (drop at s)) → y ≡ value (take k (drop (at + j) s)) → at + (j + k) ≤ length s → x ≡ first → y ≡ last
       → Got (at + (j + k)) 0 ≡ seen none (fixed (j + k) (first + 256 ^ j * last) c) s at
   unfolding pick
-  parts-got ex ey h p q = rw (eq-eqb (x + 256 ^ j * y) (first + 256 ^ j * last) (rw (p, q))) at (both ex ey h)
+  parts_got ex ey h p q = rw (eq-eqb (x + 256 ^ j * y) (first + 256 ^ j * last) (rw (p, q))) at (both ex ey h)
 
   -- the sums are equal only where the parts are
   same_parts : x + 256 ^ j * y ≡ first + 256 ^ j * last → x < 256 ^ j → first < 256 ^ j → (x ≡ first) × (y ≡ last)
@@ -329,41 +329,41 @@ took k t {x} {n} e = go (leb k (length t)) refl e
     go true h e = (leb-true k (length t) h, (cc, cc))
     go false h e = apart (sym e)
 
-small-there : (k : ℕ) (t : List ℕ) → Bytes t → k ≤ length t → value (take k t) < 256 ^ k
-small-there k t b h = rw (length-take-le k t h) at (value-small (take k t) (bytes_take k t b))
+small_there : (k : ℕ) (t : List ℕ) → Bytes t → k ≤ length t → value (take k t) < 256 ^ k
+small_there k t b h = rw (length-take-le k t h) at (value_small (take k t) (bytes_take k t b))
 
-pub number-got : (k : ℕ) (s : List ℕ) (at : ℕ) {r : Read} {m v : ℕ} → Bytes s → 0 < k → r ≡ seen itself (number k) s at → r ≡ Got m v → (m ≤ length s) × (v < 256 ^ k)
+pub number_got : (k : ℕ) (s : List ℕ) (at : ℕ) {r : Read} {m v : ℕ} → Bytes s → 0 < k → r ≡ seen itself (number k) s at → r ≡ Got m v → (m ≤ length s) × (v < 256 ^ k)
 unfolding seen
-number-got k s at b some e h =
-    let i = told-got at itself ((number k).read (drop at s)) e h in
+number_got k s at b some e h =
+    let i = told_got at itself ((number k).read (drop at s)) e h in
     let t = took k (drop at s) i.is in
-    (omega (arith, i.ends, t.0, t.1.1, length-drop at s), rw (i.tells, t.1.0) (small-there k (drop at s) (bytes_drop at s b) t.0))
+    (omega (arith, i.ends, t.0, t.1.1, length-drop at s), rw (i.tells, t.1.0) (small_there k (drop at s) (bytes_drop at s b) t.0))
 
 -- two constants, one behind the other, that the code reads at once where they are right
 pub at_once : (j k first last : ℕ) (c : Fault) (s : List ℕ) (at : ℕ) {r : Read} {m v : ℕ} → Bytes s → 0 < k → first < 256 ^ j → r ≡ seen itself (number (j + k)) s at → r ≡ Got m v → v ≡ first + 256 ^ j * last
     → Got m 0 ≡ seen none (fixed j first c then fixed k last c) s at
 unfolding seen
 at_once j k first last c s at {m = m} b some l e h o =
-    let i = told-got at itself ((number (j + k)).read (drop at s)) e h in
+    let i = told_got at itself ((number (j + k)).read (drop at s)) e h in
     let t = took (j + k) (drop at s) i.is in
     let x = value (take j (drop at s)) in
     let y = value (take k (drop (at + j) s)) in
     let long : at + (j + k) ≤ length s = omega (arith, t.0, length-drop at s) in
     let is : x + 256 ^ j * y ≡ first + 256 ^ j * last = value_join j k s at refl refl (omega arith) ∙ sym (i.tells ∙ t.1.0) ∙ o in
-    let p = same_parts j k first last c s at is (small-there j (drop at s) (bytes_drop at s b) (omega (arith, length-drop at s))) l in
+    let p = same_parts j k first last c s at is (small_there j (drop at s) (bytes_drop at s b) (omega (arith, length-drop at s))) l in
     let f = number_is j s at refl (omega arith) in
     let g = number_is k s (at + j) refl (omega arith) in
     let end : m ≡ at + j + k = omega (arith, i.ends, t.1.1) in
-    then-go none (fixed j first c) (fixed k last c) s at (fixed-is j first c s at f (fixed-got at first c refl p.0)) refl (rw end (fixed-is k last c s (at + j) g (fixed-got (at + j) last c refl p.1)))
+    then_go none (fixed j first c) (fixed k last c) s at (fixed_is j first c s at f (fixed_got at first c refl p.0)) refl (rw end (fixed_is k last c s (at + j) g (fixed_got (at + j) last c refl p.1)))
 
 pub fixed_cut : (k v : ℕ) (c : Fault) (s : List ℕ) (at : ℕ) → length s - at < k → No at Cut ≡ seen none (fixed k v c) s at
 unfolding judged_fixed
-fixed_cut k v c s at h = fixed-is k v c s at (number-no k s at h) refl
+fixed_cut k v c s at h = fixed_is k v c s at (number_no k s at h) refl
 
-pub flag-got : (s : List ℕ) (at : ℕ) {r out : Read} {v m : ℕ} → r ≡ seen itself (number 4) s at → r ≡ Got m v → v ≤ 1 → out ≡ Got m v → out ≡ seen bit flag s at
+pub flag_got : (s : List ℕ) (at : ℕ) {r out : Read} {v m : ℕ} → r ≡ seen itself (number 4) s at → r ≡ Got m v → v ≤ 1 → out ≡ Got m v → out ≡ seen bit flag s at
 unfolding flag
-flag-got s at {v = v} {m = m} e h o w =
-    via-is bit (judged (λ n. leb n 1) Field (number 4)) (λ n. eqb n 1) _ _ s at
-    (judged-got (λ n. bit (eqb n 1)) (λ n. leb n 1) Field (number 4) s at e h (yes_le o) (w ∙ ap (λ (b : ℕ). Got m b) (sym (bit-eqb v o))))
+flag_got s at {v = v} {m = m} e h o w =
+    via_is bit (judged (λ n. leb n 1) Field (number 4)) (λ n. eqb n 1) _ _ s at
+    (judged_got (λ n. bit (eqb n 1)) (λ n. leb n 1) Field (number 4) s at e h (yes_le o) (w ∙ ap (λ (b : ℕ). Got m b) (sym (bit_eqb v o))))
 
-pub ruleset reading = (refl, pair_stop, pair-go, seq_stop, seq-go, then_stop, then-go, judged_stop, judged-got, judged-no, via-is, start-got, start-no, pick_yes, pick_no, nothing_is, flag-got, untold-is, yes_le, no_le, yes_eq, no_eq, yes_as, no_as)
+pub ruleset reading = (refl, pair_stop, pair_go, seq_stop, seq_go, then_stop, then_go, judged_stop, judged_got, judged_no, via_is, start_got, start_no, pick_yes, pick_no, nothing_is, flag_got, untold_is, yes_le, no_le, yes_eq, no_eq, yes_as, no_as)

@@ -6,9 +6,9 @@ use Rattle.format.specs.declared.Read.{Read}
 use Rattle.format.specs.declared.Read.TheVariants.{Got, No}
 use Rattle.format.specs.Format.{Format}
 use Rattle.format.specs.ReadWrite.{each_write, AllFit}
-use Rattle.format.specs.Laws.Seen.{seen, unlike, got-at}
+use Rattle.format.specs.Laws.Seen.{seen, unlike, got_at}
 use Rattle.format.specs.Laws.Written.{behind, Row, Stands, first}
-use Rattle.format.specs.Laws.Back.{Where, back-got, back-no}
+use Rattle.format.specs.Laws.Back.{Where, back_got, back_no}
 use Rattle.format.specs.Row.{start_in}
 
 -- its first starts where the row does, and behind all of them it ends
@@ -16,9 +16,9 @@ pub start_first : {A : Type 0} (a : ℕ → Format A) (from : ℕ) (xs : List A)
 unfolding start_in each_write
 start_first a from xs = omega arith
 
-pub start-end : {A : Type 0} (a : ℕ → Format A) (from k : ℕ) (xs : List A) → length xs ≤ k → start_in a from xs k ≡ from + length (each_write a 0 xs)
+pub start_end : {A : Type 0} (a : ℕ → Format A) (from k : ℕ) (xs : List A) → length xs ≤ k → start_in a from xs k ≡ from + length (each_write a 0 xs)
 unfolding start_in
-start-end a from k xs l = rw (take_all k xs l)
+start_end a from k xs l = rw (take_all k xs l)
 
 -- one value more
 written_more : {A : Type 0} (a : ℕ → Format A) (i k : ℕ) (xs ys : List A) (x : A) → drop k xs ≡ x ∷ ys → length (each_write a i (take (k + 1) xs)) ≡ length (each_write a i (take k xs)) + length ((a (i + k)).write x)
@@ -39,16 +39,16 @@ unfolding start_in
 start_more a from k xs ys x e = let z : 0 + k ≡ k = zero-add k in let m = rw z at (written_more a 0 k xs ys x e) in omega arith
 
 -- of a row that stands at a place, what is behind its first k values
-row-behind : {A : Type 0} (a : ℕ → Format A) (s : List ℕ) (i k at : ℕ) (xs : List A) (t : List ℕ) → Row a s i at xs t → k ≤ length xs → Row a s (i + k) (at + length (each_write a i (take k xs))) (drop k xs) t
+row_behind : {A : Type 0} (a : ℕ → Format A) (s : List ℕ) (i k at : ℕ) (xs : List A) (t : List ℕ) → Row a s i at xs t → k ≤ length xs → Row a s (i + k) (at + length (each_write a i (take k xs))) (drop k xs) t
 unfolding AllFit each_write
-row-behind a s i zero at xs t r l = let e : i + 0 ≡ i = add-zero i in let f : at + 0 ≡ at = add-zero at in rw (e, f) r
-row-behind a s i (suc k) at [] t r l = absurd (omega arith)
-row-behind a s i (suc k) at (x ∷ xs) t r l =
+row_behind a s i zero at xs t r l = let e : i + 0 ≡ i = add-zero i in let f : at + 0 ≡ at = add-zero at in rw (e, f) r
+row_behind a s i (suc k) at [] t r l = absurd (omega arith)
+row_behind a s i (suc k) at (x ∷ xs) t r l =
     let w = (a i).write x in
     let rest : Row a s (i + 1) (at + length w) xs t = record { fit = r.fit.1; is = behind s at w (each_write a (i + 1) xs ++ t) (r.is ∙ append_assoc w (each_write a (i + 1) xs) t) } in
     let e : i + 1 + k ≡ i + suc k = omega arith in
     let f : at + length w + length (each_write a (i + 1) (take k xs)) ≡ at + length (w ++ each_write a (i + 1) (take k xs)) = omega (arith, length-append w (each_write a (i + 1) (take k xs))) in
-    rw (e, f) at (row-behind a s (i + 1) k (at + length w) xs t rest (omega arith))
+    rw (e, f) at (row_behind a s (i + 1) k (at + length w) xs t rest (omega arith))
 
 -- value k of a row
 pub record Nth {A : Type 0} (a : ℕ → Format A) (s : List ℕ) (from k at : ℕ) (xs : List A) : Type 0 where
@@ -63,7 +63,7 @@ pub nth : {A : Type 0} (a : ℕ → Format A) (s : List ℕ) (from k at : ℕ) (
 unfolding start_in
 nth a s from k at xs t e row l =
     let z : 0 + k ≡ k = zero-add k in
-    let r : Row a s k at (drop k xs) t = rw e (rw z at (row-behind a s 0 k from xs t row (omega arith))) in
+    let r : Row a s k at (drop k xs) t = rw e (rw z at (row_behind a s 0 k from xs t row (omega arith))) in
     let f = first a s k at (drop k xs) t (omega (arith, length-drop k xs)) r in
     record { x = f.x; ys = f.ys; tail = _; stands = f.stands; starts = e; whole = f.whole }
 
@@ -73,45 +73,45 @@ nth a s from k at xs t e row l =
 unfoldable pub Skipped : {A : Type 0} → (ℕ → Format A) → List ℕ → ℕ → ℕ → ℕ → Read → Type 0
 Skipped {A} a s from k i r = (xs : List A) (t : List ℕ) → Row a s 0 from xs t → k ≤ length xs → r ≡ Got (start_in a from xs i) 0
 
-ends-alike : {u v m n : ℕ} → Got m u ≡ Got n v → m ≡ n
-ends-alike e = cc
+ends_alike : {u v m n : ℕ} → Got m u ≡ Got n v → m ≡ n
+ends_alike e = cc
 
 module _ {A : Type 0} (a : ℕ → Format A) (s : List ℕ) (from k : ℕ) where
-  pub skip-start : Skipped a s from k 0 (Got from 0)
+  pub skip_start : Skipped a s from k 0 (Got from 0)
   unfolding Skipped
-  skip-start xs t r h = got-at (start_first a from xs)
+  skip_start xs t r h = got_at (start_first a from xs)
 
   -- of a row that stands there
   module _ (i : ℕ) {r : Read} (w : Skipped a s from k i r) (xs : List A) (t : List ℕ) (row : Row a s 0 from xs t) (l : k ≤ length xs) where
     pub skip_is : {v at : ℕ} → r ≡ Got at v → at ≡ start_in a from xs i
     unfolding Skipped
-    skip_is h = ends-alike (sym h ∙ w xs t row l)
+    skip_is h = ends_alike (sym h ∙ w xs t row l)
 
-    pub skip-never : {B : Type 0} {c : Fault} {q : ℕ} → r ≡ No q c → B
+    pub skip_never : {B : Type 0} {c : Fault} {q : ℕ} → r ≡ No q c → B
     unfolding Skipped
-    skip-never h = unlike (w xs t row l) h
+    skip_never h = unlike (w xs t row l) h
 
   module _ (i at : ℕ) (w : Skipped a s from k i (Got at 0)) where
-    pub skip-end : i ≤ k → k ≤ i → Skipped a s from k k (Got at 0)
-    skip-end l m = let e : i ≡ k = omega arith in rw e at w
+    pub skip_end : i ≤ k → k ≤ i → Skipped a s from k k (Got at 0)
+    skip_end l m = let e : i ≡ k = omega arith in rw e at w
 
     -- the value that stands there
-    pub skip-nth : (xs : List A) (t : List ℕ) → Row a s 0 from xs t → k ≤ length xs → i < k → Nth a s from i at xs
-    skip-nth xs t row m l = nth a s from i at xs t (skip_is i w xs t row m refl) row (omega arith)
+    pub skip_nth : (xs : List A) (t : List ℕ) → Row a s 0 from xs t → k ≤ length xs → i < k → Nth a s from i at xs
+    skip_nth xs t row m l = nth a s from i at xs t (skip_is i w xs t row m refl) row (omega arith)
 
     -- q is where it ends
     pub skip_step : (q : ℕ) → i < k → Where (a i) s at (λ x. at + length ((a i).write x)) q → Skipped a s from k (i + 1) (Got q 0)
     unfolding Skipped Where
     skip_step q l h xs t row m =
-        let n = skip-nth xs t row m l in
-        got-at (omega (arith, h n.x (n.tail, n.stands), n.starts, start_more a from i xs n.ys n.x n.whole))
+        let n = skip_nth xs t row m l in
+        got_at (omega (arith, h n.x (n.tail, n.stands), n.starts, start_more a from i xs n.ys n.x n.whole))
 
     -- as it was read
     module _ (g : A → ℕ) {r : Read} where
-      pub skip-go : {v q : ℕ} → i < k → r ≡ seen g (a i) s at → r ≡ Got q v → Skipped a s from k (i + 1) (Got q 0)
+      pub skip_go : {v q : ℕ} → i < k → r ≡ seen g (a i) s at → r ≡ Got q v → Skipped a s from k (i + 1) (Got q 0)
       unfolding Where
-      skip-go l e h = skip_step _ l (λ x b. (back-got g (a i) s at b.1 e h).1)
+      skip_go l e h = skip_step _ l (λ x b. (back_got g (a i) s at b.1 e h).1)
 
       pub skip_stop : {c : Fault} {q : ℕ} → i < k → r ≡ seen g (a i) s at → r ≡ No q c → Skipped a s from k k r
       unfolding Skipped
-      skip_stop l e h xs t row m = back-no g (a i) s at (skip-nth xs t row m l).stands e h
+      skip_stop l e h xs t row m = back_no g (a i) s at (skip_nth xs t row m l).stands e h

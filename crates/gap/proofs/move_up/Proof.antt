@@ -12,7 +12,7 @@ returns-2 : tie.Need-returns-2
 returns-2 c = moved_out _ _ _ _ (λ h k. omega arith)
 
 returns-3 : tie.Need-returns-3
-returns-3 c = part_moved _ _ _ _ _ c.before.before.shift-up.ensures (omega arith) (omega arith)
+returns-3 c = part_moved _ _ _ _ _ c.before.before.shift_up.ensures (omega arith) (omega arith)
 
 pub move_up_spec : {M : Type 1} → statement M
 move_up_spec =

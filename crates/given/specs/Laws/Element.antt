@@ -4,14 +4,14 @@ use Rattle.std.proofs.Common.{arith, sym, ap, ◌∙◌, append-nil, eqb-true, n
 use Rattle.std.proofs.Math.Seq.{drop-length}
 use Rattle.format.specs.declared.Fault.TheVariants as Fault
 use Rattle.format.specs.Format.{Answer, got, refused, Format, Bytes, whole, pick}
-use Rattle.format.specs.Laws.Format.{mapped-got, apart}
+use Rattle.format.specs.Laws.Format.{mapped_got, apart}
 use Rattle.format.specs.ReadWrite.{pair_write, spelt}
 use Rattle.format.specs.Combinators.{pair, judged, via, seq, ◌then◌, number, fixed}
 use Rattle.kind.specs.declared.Product.{Product}
 use Rattle.kind.specs.declared.Row.{Row}
 use Rattle.kind.specs.declared.Row.TheVariants as Row
 use Rattle.kind.specs.Kinds.{kinds, row_in, row_of}
-use Rattle.kind.specs.Laws.Kinds.{offered-is}
+use Rattle.kind.specs.Laws.Kinds.{offered_is}
 use Rattle.element.specs.Data.{data_of}
 use Rattle.element.specs.Element.{Element, element, identifier}
 use Rattle.rule.specs.Rule.{placed}
@@ -34,22 +34,22 @@ all_read a s x l bs e = go (a.read s) refl e
     go (refused c q) f z = apart (sym z)
 
 -- alike in both editions
-pub given-written : (p q : Product) (id : ℕ) (s : List ℕ) (x : Element) (l : ℕ) → Bytes s → given p id s ≡ got x l → (element q).write x ≡ spelt 4 id ++ s
+pub given_written : (p q : Product) (id : ℕ) (s : List ℕ) (x : Element) (l : ℕ) → Bytes s → given p id s ≡ got x l → (element q).write x ≡ spelt 4 id ++ s
 unfolding given row_of element identifier judged pair pair_write number
-given-written p q id s x l bs e = go (row_of p id) refl e
+given_written p q id s x l bs e = go (row_of p id) refl e
   where
     go : (w : Row) → row_of p id ≡ w → given_by w id s ≡ got x l → (element q).write x ≡ spelt 4 id ++ s
     go (Row.Is k) f z =
-        let v = mapped-got (with_data id) (whole (length s) ((data_of k).read s)) x l z in
-        let i : row_in kinds id ≡ Row.Is k = offered-is p (row_in kinds id) f in
+        let v = mapped_got (with_data id) (whole (length s) ((data_of k).read s)) x l z in
+        let i : row_in kinds id ≡ Row.Is k = offered_is p (row_in kinds id) f in
         rw (v.1.1, i, all_read (data_of k) s v.0 l bs v.1.0)
     go (Row.No c o) f z = apart (sym z)
 
 -- at the first place of its rule, and at a later one
-pub first-written : (p q : Product) (id : ℕ) (s : List ℕ) (x : Element) (l : ℕ) → Bytes s → given p id s ≡ got x l → (placed q 0).write x ≡ spelt 4 id ++ s
+pub first_written : (p q : Product) (id : ℕ) (s : List ℕ) (x : Element) (l : ℕ) → Bytes s → given p id s ≡ got x l → (placed q 0).write x ≡ spelt 4 id ++ s
 unfolding placed pick
-first-written p q id s x l bs e = given-written p q id s x l bs e
+first_written p q id s x l bs e = given_written p q id s x l bs e
 
-pub later-written : (p q : Product) (j id : ℕ) (s : List ℕ) (x : Element) (l : ℕ) → 0 < j → Bytes s → given p id s ≡ got x l → (placed q j).write x ≡ spelt 2 0x8001 ++ (spelt 4 id ++ s)
+pub later_written : (p q : Product) (j id : ℕ) (s : List ℕ) (x : Element) (l : ℕ) → 0 < j → Bytes s → given p id s ≡ got x l → (placed q j).write x ≡ spelt 2 0x8001 ++ (spelt 4 id ++ s)
 unfolding placed pick fixed ◌then◌ seq via judged pair pair_write number
-later-written p q j id s x l h bs e = rw (ne_eqb j 0 (λ z. omega arith), given-written p q id s x l bs e)
+later_written p q j id s x l h bs e = rw (ne_eqb j 0 (λ z. omega arith), given_written p q id s x l bs e)

@@ -12,7 +12,7 @@ use Rattle.format.specs.declared.Read.{Read}
 use Rattle.format.specs.declared.Read.TheVariants as Read
 use Rattle.format.specs.Laws.Fault.{no_read}
 use Rattle.format.specs.Format.{Answer, got, refused, mapped, whole, pick}
-use Rattle.format.specs.Laws.Seen.{told, seen, none, told-got, told-no}
+use Rattle.format.specs.Laws.Seen.{told, seen, none, told_got, told_no}
 use Rattle.kind.specs.declared.Product.{Product}
 use Rattle.kind.specs.declared.Row.{Row}
 use Rattle.kind.specs.declared.Row.TheVariants as Row
@@ -32,9 +32,9 @@ text_even s h = rw (eq-eqb (length s % 2) 0 h)
 
 -- row is the row of the identifier
 module _ (p : Product) (id : ℕ) (s : List ℕ) {row : Row} where
-  pub given-none : {o : Outcome} {x : Read} {c : Fault} {q : ℕ} → row ≡ row_of p id → row ≡ Row.No c q → o ≡ (kind_says row).0 → x ≡ no_read o → x ≡ told 0 none (given p id s)
+  pub given_none : {o : Outcome} {x : Read} {c : Fault} {q : ℕ} → row ≡ row_of p id → row ≡ Row.No c q → o ≡ (kind_says row).0 → x ≡ no_read o → x ≡ told 0 none (given p id s)
   unfolding given told
-  given-none e h f g = g ∙ ap no_read (f ∙ ap (λ (w : Row). (kind_says w).0) h) ∙ rw (← e, h, zero-add)
+  given_none e h f g = g ∙ ap no_read (f ∙ ap (λ (w : Row). (kind_says w).0) h) ∙ rw (← e, h, zero-add)
 
   by : {k : Kind} → row ≡ row_of p id → row ≡ Row.Is k → given p id s ≡ mapped (with_data id) (whole (length s) ((data_of k).read s))
   unfolding given
@@ -44,12 +44,12 @@ module _ (p : Product) (id : ℕ) (s : List ℕ) {row : Row} where
   module _ {k : Kind} {r : Read} where
     pub given_stop : {c : Fault} {q : ℕ} → row ≡ row_of p id → row ≡ Row.Is k → r ≡ seen none (data_of k) s 0 → r ≡ Read.No q c → r ≡ told 0 none (given p id s)
     unfolding seen told mapped whole
-    given_stop e h f g = let o = told-no 0 none ((data_of k).read s) f g in rw (by e h, o.is, ← o.ends) g
+    given_stop e h f g = let o = told_no 0 none ((data_of k).read s) f g in rw (by e h, o.is, ← o.ends) g
 
     read : {v m : ℕ} (t : Bool) → row ≡ row_of p id → row ≡ Row.Is k → r ≡ seen none (data_of k) s 0 → r ≡ Read.Got m v → eqb m (length s) ≡ t → told 0 none (given p id s) ≡ pick t (Read.Got m 0) (Read.No m Fault.Over)
     unfolding seen told mapped whole pick
     read {v} {m} t e h f g w =
-        let o = told-got 0 none ((data_of k).read s) f g in
+        let o = told_got 0 none ((data_of k).read s) f g in
         let z : o.n ≡ m = sym (o.ends ∙ zero-add o.n) in
         ap (told 0 none) (by e h ∙ ap (λ (a : Answer Data). mapped (with_data id) (whole (length s) a)) o.is) ∙ go t o.x o.n z (ap (λ (u : ℕ). eqb u (length s)) z ∙ w)
       where
@@ -57,9 +57,9 @@ module _ (p : Product) (id : ℕ) (s : List ℕ) {row : Row} where
         go true x n z u = rw (u, zero-add, z)
         go false x n z u = rw (u, zero-add, z)
 
-    pub given-over : {v m : ℕ} → row ≡ row_of p id → row ≡ Row.Is k → r ≡ seen none (data_of k) s 0 → r ≡ Read.Got m v → (m ≡ length s → ⊥) → Read.No m Fault.Over ≡ told 0 none (given p id s)
+    pub given_over : {v m : ℕ} → row ≡ row_of p id → row ≡ Row.Is k → r ≡ seen none (data_of k) s 0 → r ≡ Read.Got m v → (m ≡ length s → ⊥) → Read.No m Fault.Over ≡ told 0 none (given p id s)
     unfolding pick
-    given-over {m = m} e h f g w = sym (read false e h f g (ne_eqb m (length s) w))
+    given_over {m = m} e h f g w = sym (read false e h f g (ne_eqb m (length s) w))
 
     pub given_is : {v m : ℕ} → row ≡ row_of p id → row ≡ Row.Is k → r ≡ seen none (data_of k) s 0 → r ≡ Read.Got m v → m ≡ length s → Read.Got m 0 ≡ told 0 none (given p id s)
     unfolding pick

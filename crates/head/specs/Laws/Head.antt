@@ -3,7 +3,7 @@ use Rattle.std.specs.Prelude.{ℕ, ◌<◌, ◌≤◌, ◌≡◌, refl, Bool, Li
 use Rattle.std.proofs.Common.{arith, sym, ap, ◌∙◌, ne_eqb}
 use Rattle.format.specs.Format.{pick}
 use Rattle.format.specs.ReadWrite.{pair_write, spelt, value}
-use Rattle.format.specs.Laws.ReadWrite.{length-spelt}
+use Rattle.format.specs.Laws.ReadWrite.{length_spelt}
 use Rattle.format.specs.Combinators.{via, judged, seq, ◌then◌, pair, number, fixed, bytes}
 use Rattle.buffer.specs.Laid.{put_in}
 use Rattle.rule.specs.Rule.{head, first_head, class_head, class_name, separator}
@@ -18,26 +18,26 @@ pub head_first : first_bytes ≡ head_bytes 0
 unfolding head_bytes head pick first_head class_head class_name ◌then◌ seq via pair pair_write fixed bytes judged number spelt value
 head_first = refl
 
-pub head-other : (i : ℕ) → (i ≡ 0 → ⊥) → spelt 2 0x8001 ≡ head_bytes i
+pub head_other : (i : ℕ) → (i ≡ 0 → ⊥) → spelt 2 0x8001 ≡ head_bytes i
 unfolding head_bytes head pick fixed via judged number
-head-other i h = sym (ap (λ (b : Bool). (pick b first_head separator).write tt) (ne_eqb i 0 h))
+head_other i h = sym (ap (λ (b : Bool). (pick b first_head separator).write tt) (ne_eqb i 0 h))
 
-pub head-long : length (head_bytes 0) ≡ 18
-head-long = sym (ap length head_first)
+pub head_long : length (head_bytes 0) ≡ 18
+head_long = sym (ap length head_first)
 
-pub head-short : (i : ℕ) → 0 < i → length (head_bytes i) ≡ 2
-head-short i h = sym (ap length (head-other i (λ e. omega arith))) ∙ length-spelt 2 0x8001
+pub head_short : (i : ℕ) → 0 < i → length (head_bytes i) ≡ 2
+head_short i h = sym (ap length (head_other i (λ e. omega arith))) ∙ length_spelt 2 0x8001
 
 -- as the code measures it
-pub head-none : {i : ℕ} → i ≡ 0 → (18 ≡ length (head_bytes i)) × (18 ≤ 18)
-head-none e = (sym (ap (λ (j : ℕ). length (head_bytes j)) e ∙ head-long), omega arith)
+pub head_none : {i : ℕ} → i ≡ 0 → (18 ≡ length (head_bytes i)) × (18 ≤ 18)
+head_none e = (sym (ap (λ (j : ℕ). length (head_bytes j)) e ∙ head_long), omega arith)
 
-pub head-some : {i : ℕ} → 0 < i → (2 ≡ length (head_bytes i)) × (2 ≤ 18)
-head-some {i} h = (sym (head-short i h), omega arith)
+pub head_some : {i : ℕ} → 0 < i → (2 ≡ length (head_bytes i)) × (2 ≤ 18)
+head_some {i} h = (sym (head_short i h), omega arith)
 
 module _ (d : List ℕ) (at i : ℕ) {y : List ℕ} where
   pub put_first : i ≡ 0 → y ≡ put_in d at first_bytes → y ≡ put_in d at (head_bytes i)
   put_first e h = h ∙ ap (put_in d at) (head_first ∙ ap head_bytes (sym e))
 
   pub put_other : (i ≡ 0 → ⊥) → y ≡ put_in d at (spelt 2 0x8001) → y ≡ put_in d at (head_bytes i)
-  put_other e h = h ∙ ap (put_in d at) (head-other i e)
+  put_other e h = h ∙ ap (put_in d at) (head_other i e)

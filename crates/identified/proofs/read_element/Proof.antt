@@ -1,4 +1,4 @@
-use Rattle.element.specs.Laws.Element.{element_cut, element-no, element-is}
+use Rattle.element.specs.Laws.Element.{element_cut, element_no, element_is}
 use borrow.Author.Rules.{rules}
 use Rattle.identified.proofs.read_element.Statement.{statement}
 use Rattle.identified.proofs.read_element.Tie as tie
@@ -7,10 +7,10 @@ returns : tie.Need-returns
 returns c = search (rules, element_cut)
 
 returns-2 : tie.Need-returns-2
-returns-2 c = search (rules, element-is)
+returns-2 c = search (rules, element_is)
 
 returns-3 : tie.Need-returns-3
-returns-3 c = search (rules, element-no)
+returns-3 c = search (rules, element_no)
 
 pub read-element-spec : {M : Type 1} → statement M
 read-element-spec =

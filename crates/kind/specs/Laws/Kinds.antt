@@ -19,31 +19,31 @@ pub seventeen : length (identifiers Desk kinds) ≡ 17
 unfolding identifiers pick
 seventeen = refl
 
-pub thirty-five : length (identifiers Studio kinds) ≡ 35
+pub thirty_five : length (identifiers Studio kinds) ≡ 35
 unfolding identifiers pick
-thirty-five = refl
+thirty_five = refl
 
 -- ---- what a row tells
 
 -- a row is no fault
-pub row_or-fault : {B : Type 0} {r : Row} {k : Kind} {c : Fault} {q : ℕ} → r ≡ Is k → r ≡ No c q → B
-row_or-fault e h = absurd (let z : ◌≡◌ {A = ℕ} 0 1 = cc in omega arith)
+pub row_or_fault : {B : Type 0} {r : Row} {k : Kind} {c : Fault} {q : ℕ} → r ≡ Is k → r ≡ No c q → B
+row_or_fault e h = absurd (let z : ◌≡◌ {A = ℕ} 0 1 = cc in omega arith)
 
 -- the row of a product is the row of the table
-pub offered-is : (p : Product) (r : Row) {k : Kind} → offered p r ≡ Is k → r ≡ Is k
+pub offered_is : (p : Product) (r : Row) {k : Kind} → offered p r ≡ Is k → r ≡ Is k
 unfolding offered pick
-offered-is p (No c q) e = e
-offered-is p (Is j) {k} e = go (in_product p j) e
+offered_is p (No c q) e = e
+offered_is p (Is j) {k} e = go (in_product p j) e
   where
     go : (b : Bool) → pick b (Is j) (No Fault.Foreign 0) ≡ Is k → Is j ≡ Is k
     go true h = h
-    go false h = row_or-fault h refl
+    go false h = row_or_fault h refl
 
 -- "Studio has all 35"
-pub all-offered : (r : Row) → offered Studio r ≡ r
+pub all_offered : (r : Row) → offered Studio r ≡ r
 unfolding offered pick
-all-offered (Is k) = refl
-all-offered (No c q) = refl
+all_offered (Is k) = refl
+all_offered (No c q) = refl
 
 -- what the table lacks is Unknown, and what a product lacks is Foreign
 pub lacking : (rows : List (Kind × List ℕ)) (id : ℕ) {c : Fault} {q : ℕ} → row_in rows id ≡ No c q → c ≡ Fault.Unknown
@@ -52,7 +52,7 @@ lacking [] id e = cc
 lacking ((k, ids) ∷ rows) id {c} {q} e = go (has ids id) (lacking rows id) e
   where
     go : (b : Bool) → (row_in rows id ≡ No c q → c ≡ Fault.Unknown) → pick b (Is k) (row_in rows id) ≡ No c q → c ≡ Fault.Unknown
-    go true f h = row_or-fault refl h
+    go true f h = row_or_fault refl h
     go false f h = f h
 
 pub foreign : (p : Product) (j : Kind) {c : Fault} {q : ℕ} → offered p (Is j) ≡ No c q → c ≡ Fault.Foreign
@@ -60,7 +60,7 @@ unfolding offered pick
 foreign p j {c} {q} e = go (in_product p j) e
   where
     go : (b : Bool) → pick b (Is j) (No Fault.Foreign 0) ≡ No c q → c ≡ Fault.Foreign
-    go true h = row_or-fault refl h
+    go true h = row_or_fault refl h
     go false h = cc
 
 -- ---- as the code finds it
@@ -70,9 +70,9 @@ module _ (edition id : ℕ) {e : Edition} where
   unfolding kind_of row_by
   kind_in f h o = rw (← f, h) (ap kind_says o)
 
-  pub kind-none : e ≡ edition_of edition → e ≡ Edition.Unknown → kind_says (No Fault.Edition 0) ≡ kind_of edition id
+  pub kind_none : e ≡ edition_of edition → e ≡ Edition.Unknown → kind_says (No Fault.Edition 0) ≡ kind_of edition id
   unfolding kind_of row_by
-  kind-none f h = rw (← f, h)
+  kind_none f h = rw (← f, h)
 
 -- ---- where a case is computed
 unfoldable pub ComputingKinds : Type 0

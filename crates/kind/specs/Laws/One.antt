@@ -46,5 +46,5 @@ row_from_lem (Is (Dates Action)) = refl
 row_from_lem (Is (Dates Exception)) = refl
 row_from_lem (No c q) = refl
 
-pub kind-one : (r q : Row) → kind_says r ≡ kind_says q → r ≡ q
-kind-one r q e = sym (row_from_lem r) ∙ ap row_from e ∙ row_from_lem q
+pub kind_one : (r q : Row) → kind_says r ≡ kind_says q → r ≡ q
+kind_one r q e = sym (row_from_lem r) ∙ ap row_from e ∙ row_from_lem q

@@ -3,8 +3,8 @@ use native.Mathlib.Omega.{arith}
 use mathlib.Core.Path.{◌≡◌, refl}
 use lib.ListN.{length, drop, length-set}
 use Rattle.buffer.specs.Laid.{put}
-use Rattle.buffer.proofs.Loops.{copy-next, copy-last}
-use Rattle.lent.specs.Laws.Lent.{lent-small, lent-done}
+use Rattle.buffer.proofs.Loops.{copy_next, copy_last}
+use Rattle.lent.specs.Laws.Lent.{lent_small, lent_done}
 use borrow.Author.Rules.{rules}
 use Rattle.lent.proofs.put_row.Statement.{statement}
 use Rattle.lent.proofs.put_row.Tie as tie
@@ -16,16 +16,16 @@ abbrev decreases-loop : tie.decreases-loop
 decreases-loop t₀ row i₀ t i = length row - i
 
 returns : tie.Need-returns invariant-loop decreases-loop
-returns c = lent-small _ _ _ _ (omega arith)
+returns c = lent_small _ _ _ _ (omega arith)
 
 loop-holds : tie.Need-loop-init invariant-loop decreases-loop
 loop-holds c = (refl, (refl, omega arith))
 
 loop-again : tie.Need-loop-preserved invariant-loop decreases-loop
-loop-again c = (copy-next _ _ _ c.before.before.loop.invariant.0 (omega arith) (omega arith), (simp length-set c.before.before.loop.invariant.1.0, omega arith))
+loop-again c = (copy_next _ _ _ c.before.before.loop.invariant.0 (omega arith) (omega arith), (simp length-set c.before.before.loop.invariant.1.0, omega arith))
 
 returns-2 : tie.Need-returns-2 invariant-loop decreases-loop
-returns-2 c = lent-done _ _ _ _ (copy-last _ _ _ c.before.loop.invariant.0 (omega arith)) (omega arith)
+returns-2 c = lent_done _ _ _ _ (copy_last _ _ _ c.before.loop.invariant.0 (omega arith)) (omega arith)
 
 pub put-row-spec : {M : Type 1} → statement M
 put-row-spec =

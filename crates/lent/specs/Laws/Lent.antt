@@ -16,27 +16,27 @@ abbrev pub told : List ℕ → Said
 told vs = (Done 0, vs)
 
 module _ (width : ℕ) (t : List ℕ) where
-  pub lent-small : (n : ℕ) (vs : List ℕ) → length t < width → Lends width t (Done n, vs) (No Fault.Table 0) t
+  pub lent_small : (n : ℕ) (vs : List ℕ) → length t < width → Lends width t (Done n, vs) (No Fault.Table 0) t
   unfolding lent_says lent_leaves pick
-  lent-small n vs h = let e = lt-leb width (length t) h in rw e (refl, refl)
+  lent_small n vs h = let e = lt-leb width (length t) h in rw e (refl, refl)
 
-  pub lent-done : (n : ℕ) (vs : List ℕ) {t' : List ℕ} → t' ≡ put t 0 vs → width ≤ length t → Lends width t (Done n, vs) (Done n) t'
+  pub lent_done : (n : ℕ) (vs : List ℕ) {t' : List ℕ} → t' ≡ put t 0 vs → width ≤ length t → Lends width t (Done n, vs) (Done n) t'
   unfolding lent_says lent_leaves pick
-  lent-done n vs e h = let f = le-leb width (length t) h in rw f (refl, e)
+  lent_done n vs e h = let f = le-leb width (length t) h in rw f (refl, e)
 
   -- where there is room
-  pub lent-put : (vs : List ℕ) {r : Outcome} {t' : List ℕ} → Lends width t (told vs) r t' → width ≤ length t → t' ≡ put t 0 vs
+  pub lent_put : (vs : List ℕ) {r : Outcome} {t' : List ℕ} → Lends width t (told vs) r t' → width ≤ length t → t' ≡ put t 0 vs
   unfolding lent_leaves pick
-  lent-put vs f h = let e = le-leb width (length t) h in rw e at f.1
+  lent_put vs f h = let e = le-leb width (length t) h in rw e at f.1
 
   module _ {x : Said} {r : Outcome} where
-    pub lent-no : (c : Fault) (q : ℕ) → ◌≡◌ {A = Said} (No c q, []) x → r ≡ No c q → Lends width t x r t
+    pub lent_no : (c : Fault) (q : ℕ) → ◌≡◌ {A = Said} (No c q, []) x → r ≡ No c q → Lends width t x r t
     unfolding lent_says lent_leaves
-    lent-no c q e f = rw (← e) (f, refl)
+    lent_no c q e f = rw (← e) (f, refl)
 
-    pub lent-given : (c : Fault) (q : ℕ) → ◌≡◌ {A = Said} (Given c q, []) x → r ≡ Given c q → Lends width t x r t
+    pub lent_given : (c : Fault) (q : ℕ) → ◌≡◌ {A = Said} (Given c q, []) x → r ≡ Given c q → Lends width t x r t
     unfolding lent_says lent_leaves
-    lent-given c q e f = rw (← e) (f, refl)
+    lent_given c q e f = rw (← e) (f, refl)
 
     -- of what is said by another name
     pub lent_as : (y : Said) {t' : List ℕ} → Lends width t y r t' → y ≡ x → Lends width t x r t'
@@ -47,12 +47,12 @@ module _ (width : ℕ) (t : List ℕ) where
     lent_row vs f e h = rw (e, h) at f
 
 -- a place that is small stays so
-pub lent-place : (width room : ℕ) (x : Said) → place_of x.0 ≤ 60000 → place_of (lent_says width room x) ≤ 60000
+pub lent_place : (width room : ℕ) (x : Said) → place_of x.0 ≤ 60000 → place_of (lent_says width room x) ≤ 60000
 unfolding lent_says pick
-lent-place width room (Done n, vs) h = go (leb width room)
+lent_place width room (Done n, vs) h = go (leb width room)
   where
     go : (b : Bool) → place_of (pick b (Done n) (No Fault.Table 0)) ≤ 60000
     go true = h
     go false = omega arith
-lent-place width room (No c q, vs) h = h
-lent-place width room (Given c q, vs) h = h
+lent_place width room (No c q, vs) h = h
+lent_place width room (Given c q, vs) h = h

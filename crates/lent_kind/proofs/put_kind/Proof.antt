@@ -3,7 +3,7 @@ use mathlib.Core.Path.{refl, sym, ap, ◌∙◌}
 use mathlib.Core.List.{[], ◌∷◌}
 use Rattle.kind.specs.declared.Kind.{Kind}
 use Rattle.kind.specs.Kinds.{kind_values}
-use Rattle.lent_kind.specs.Laws.Kind.{simple-row}
+use Rattle.lent_kind.specs.Laws.Kind.{simple_row}
 use Rattle.lent.specs.Laws.Lent.{told, lent_row}
 use borrow.Author.Rules.{rules}
 use Rattle.lent_kind.proofs.put_kind.Statement.{statement}
@@ -13,7 +13,7 @@ returns : tie.Need-returns
 returns c = lent_row _ _ _ c.before.before.put-row.ensures (ap (λ (k : Kind). told (kind_values k)) (sym c.before.before.before.before.before.enum_told.given.1)) refl
 
 returns-2 : tie.Need-returns-2
-returns-2 c = lent_row _ _ _ c.before.before.put-row2.ensures (simple-row c.before.before.before.before.before.before.before.before.kind.given.0.0 c.before.before.before.before.before.role-number.ensures c.before.before.before.before.role-number2.ensures ∙ ap (λ (k : Kind). told (kind_values k)) (sym c.before.before.before.before.before.before.before.before.kind.given.1)) refl
+returns-2 c = lent_row _ _ _ c.before.before.put-row2.ensures (simple_row c.before.before.before.before.before.before.before.before.kind.given.0.0 c.before.before.before.before.before.role-number.ensures c.before.before.before.before.role-number2.ensures ∙ ap (λ (k : Kind). told (kind_values k)) (sym c.before.before.before.before.before.before.before.before.kind.given.1)) refl
 
 returns-3 : tie.Need-returns-3
 returns-3 c = lent_row _ _ _ c.before.before.put-row3.ensures (ap (λ (k : Kind). told (kind_values k)) (sym c.before.before.before.before.before.enum-told2.given.1)) refl

@@ -7,21 +7,21 @@ use Rattle.civil.specs.Laws.Steps.{years_least}
 use Rattle.moment.specs.declared.Moment.{Moment}
 use Rattle.moment.specs.declared.Moment.TheVariants.{At}
 use Rattle.moment.specs.Moment.{Says}
-use Rattle.moment.specs.Laws.One.{Shown, says-shown}
-use Rattle.moment.proofs.Shift.{second-small, day-small}
+use Rattle.moment.specs.Laws.One.{Shown, says_shown}
+use Rattle.moment.proofs.Shift.{second_small, day_small}
 
 -- a date's numbers have 32 bits
 pub record Narrow (c : Civil) (second : ℕ) : Type 0 where
   pub year : c.year < 2 ^ 32
   pub month : c.month < 2 ^ 32
   pub day : c.day < 2 ^ 32
-  pub of-day : second < 2 ^ 32
+  pub of_day : second < 2 ^ 32
 
-pub moment-narrow : (bits : ℕ) (c : Civil) (second : ℕ) {m : Moment} → Says bits m → m ≡ At c second → Narrow c second
+pub moment_narrow : (bits : ℕ) (c : Civil) (second : ℕ) {m : Moment} → Says bits m → m ≡ At c second → Narrow c second
 unfolding day_of
-moment-narrow bits c second s e =
-    let f : Shown bits c second = says-shown bits c second (rw e at s) in
-    let d = day-small bits f.date in
+moment_narrow bits c second s e =
+    let f : Shown bits c second = says_shown bits c second (rw e at s) in
+    let d = day_small bits f.date in
     let y = years_least (c.year - 100) in
-    let n = second-small bits in
-    record { year = omega (arith, f.on-day, d, y); month = omega (arith, f.valid.month-high); day = omega (arith, f.on-day, d); of-day = omega (arith, f.at, n) }
+    let n = second_small bits in
+    record { year = omega (arith, f.on_day, d, y); month = omega (arith, f.valid.month_high); day = omega (arith, f.on_day, d); of_day = omega (arith, f.at, n) }

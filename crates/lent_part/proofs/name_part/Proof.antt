@@ -1,6 +1,6 @@
 use mathlib.Core.Path.{ap}
-use Rattle.format.specs.Laws.Format.{bytes-all}
-use Rattle.bounds.specs.Laws.Places.{name-short}
+use Rattle.format.specs.Laws.Format.{bytes_all}
+use Rattle.bounds.specs.Laws.Places.{name_short}
 use Rattle.view.specs.View.{part_says}
 use Rattle.lent.specs.Laws.Lent.{lent_as}
 use borrow.Author.Rules.{rules}
@@ -8,7 +8,7 @@ use Rattle.lent_part.proofs.name_part.Statement.{statement}
 use Rattle.lent_part.proofs.name_part.Tie as tie
 
 put-part-requires : tie.Need-put-part-requires
-put-part-requires c κs = name-short _ _ _ (bytes-all c.before.before.before.before.args.s.now c.before.before.before.shared-slice-known.given) c.before.find-name.ensures.0 c.before.find-name.ensures.1
+put-part-requires c κs = name_short _ _ _ (bytes_all c.before.before.before.before.args.s.now c.before.before.before.shared-slice-known.given) c.before.find-name.ensures.0 c.before.find-name.ensures.1
 
 returns : tie.Need-returns
 returns c = lent_as _ _ _ c.before.before.put-part.ensures (ap part_says c.before.before.before.before.find-name.ensures.0)

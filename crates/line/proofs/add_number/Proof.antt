@@ -1,7 +1,7 @@
 use native.Mathlib.Omega.{arith}
 use borrow.Author.Rules.{rules}
-use Rattle.digits.specs.Laws.Digits.{spelt-long}
-use Rattle.line.specs.Laws.Adds.{adds-number}
+use Rattle.digits.specs.Laws.Digits.{spelt_long}
+use Rattle.line.specs.Laws.Adds.{adds_number}
 use Rattle.line.proofs.add_number.Statement.{statement}
 use Rattle.line.proofs.add_number.Tie as tie
 
@@ -9,13 +9,13 @@ use Rattle.line.proofs.add_number.Tie as tie
 part-add-end : tie.Need-slice-bounds-add-end
 part-add-end c =
     let t = c.before.before.before.before.before.before.before.spell in
-    omega (arith, spelt-long _ t.result _ t.ensures.0 t.ensures.1 (omega arith))
+    omega (arith, spelt_long _ t.result _ t.ensures.0 t.ensures.1 (omega arith))
 
 -- src/lib.rt:18:1
 returns : tie.Need-returns
 returns c =
     let t = c.before.before.before.before.before.before.before.before.before.before.before.spell in
-    adds-number _ t.result _ t.ensures.0 t.ensures.1 c.before.before.before.before.before.before.before.before.add.ensures c.before.before.add2.ensures (omega arith) (omega arith)
+    adds_number _ t.result _ t.ensures.0 t.ensures.1 c.before.before.before.before.before.before.before.before.add.ensures c.before.before.add2.ensures (omega arith) (omega arith)
 
 pub add-number-spec : {M : Type 1} → statement M
 add-number-spec =

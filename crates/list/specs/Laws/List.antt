@@ -8,11 +8,11 @@ use Rattle.format.specs.declared.Read.{Read}
 use Rattle.format.specs.declared.Read.TheVariants.{Got, No}
 use Rattle.format.specs.Format.{pick}
 use Rattle.format.specs.ReadWrite.{pair_write, spelt, each_write}
-use Rattle.format.specs.Laws.ReadWrite.{length-spelt, length_before}
+use Rattle.format.specs.Laws.ReadWrite.{length_spelt, length_before}
 use Rattle.format.specs.Combinators.{pair, judged, via, seq, ◌then◌, number, fixed, count, each, counted, listed}
 use Rattle.format.specs.Laws.Seen.{seen, itself, unlike}
 use Rattle.format.specs.Laws.Written.{Held}
-use Rattle.format.specs.Laws.Back.{Where, back-got, back-no}
+use Rattle.format.specs.Laws.Back.{Where, back_got, back_no}
 use Rattle.format.specs.Row.{start_in}
 use Rattle.format.specs.Laws.Skip.{Skipped, nth}
 use Rattle.text.specs.Text.{word, Text}
@@ -24,14 +24,14 @@ use Rattle.kind.specs.declared.Row.{Row}
 use Rattle.kind.specs.declared.Row.TheVariants as Row
 use Rattle.kind.specs.Kinds.{kinds, row_in}
 use Rattle.element.specs.Data.{Data, plain, words, sizes, span, of_words, words_of, data_of, word_data}
-use Rattle.element.specs.Laws.Data.{Other, words-none, list_parts}
+use Rattle.element.specs.Laws.Data.{Other, words_none, list_parts}
 use Rattle.element.specs.Element.{Element, element, identifier, data_by}
 use Rattle.rule.specs.Rule.{Rule, rule, separator, placed}
 use Rattle.rule.specs.Laws.Rule.{rule_fits}
 use Rattle.rule.specs.Laws.Parts.{head_bytes, inner, inner_as}
 use Rattle.rule.specs.Places.{elements_at, data_at, enabled_at}
-use Rattle.rule.specs.Laws.Places.{rule_parts, rule-elements, placed_parts}
-use Rattle.walk.specs.Laws.Elements.{Elements, Carries, elements-none, elements-are, element-never, of-element}
+use Rattle.rule.specs.Laws.Places.{rule_parts, rule_elements, placed_parts}
+use Rattle.walk.specs.Laws.Elements.{Elements, Carries, elements_none, elements_are, element_never, of_element_lem}
 use Rattle.walk.specs.Elements.{of_first, of_element}
 use Rattle.plan.specs.Edit.{Plan, refuse, at_list}
 
@@ -48,36 +48,36 @@ last_list p k at r = of_element (No 0 Fault.Last) list_of p k (length r.elements
 module _ (s : List ℕ) (at : ℕ) {z : Read} (e : z ≡ seen itself (number 4) s at) where
   pub list_cut : (r : Read) {c : Fault} {q : ℕ} → z ≡ No q c → Where word_data s at (list_of at) r
   unfolding Where
-  list_cut r h x b = back-no itself (number 4) s at (list_parts s at x b.0 b.1).0.1 e h
+  list_cut r h x b = back_no itself (number 4) s at (list_parts s at x b.0 b.1).0.1 e h
 
-  pub list-is : {n q : ℕ} → z ≡ Got q n → Where word_data s at (list_of at) (Got at n)
+  pub list_is : {n q : ℕ} → z ≡ Got q n → Where word_data s at (list_of at) (Got at n)
   unfolding Where word_data via
-  list-is h x b = ap (λ (m : ℕ). Got at m) (back-got itself (number 4) s at (list_parts s at x b.0 b.1).0.1 e h).0 ∙ ap (list_of at) b.1.fit.1
+  list_is h x b = ap (λ (m : ℕ). Got at m) (back_got itself (number 4) s at (list_parts s at x b.0 b.1).0.1 e h).0 ∙ ap (list_of at) b.1.fit.1
 
-pub list-other : (k : Kind) (s : List ℕ) (at : ℕ) → Other k → Where (data_of k) s at (list_of at) (No 0 Fault.Last)
+pub list_other : (k : Kind) (s : List ℕ) (at : ℕ) → Other k → Where (data_of k) s at (list_of at) (No 0 Fault.Last)
 unfolding Where
-list-other k s at o x b = sym (words-none (No 0 Fault.Last) (λ ws. Got at (length ws)) k x b.1.fit o)
+list_other k s at o x b = sym (words_none (No 0 Fault.Last) (λ ws. Got at (length ws)) k x b.1.fit o)
 
 module _ (p : Product) (s : List ℕ) (at k : ℕ) (r : Read) {c : Read} (i : Elements s at k c) where
   pub last_list_cut : {f : Fault} {q : ℕ} → c ≡ No q f → Where (rule p k) s at (last_list p k at) r
   unfolding Where
-  last_list_cut h x b = elements-none p s at k x b i h
+  last_list_cut h x b = elements_none p s at k x b i h
 
   module _ {n q : ℕ} (h : c ≡ Got q n) where
     -- never, of a rule
-    pub last_list-none : n ≡ 0 → Where (rule p k) s at (last_list p k at) r
+    pub last_list_none : n ≡ 0 → Where (rule p k) s at (last_list p k at) r
     unfolding Where
-    last_list-none e x b = absurd (omega (arith, (elements-are p s at k x b i h).0, (rule_fits p k x b.1.fit).0))
+    last_list_none e x b = absurd (omega (arith, (elements_are p s at k x b i h).0, (rule_fits p k x b.1.fit).0))
 
-    pub last_list-never : {z : Read} {f : Fault} {o : ℕ} → (n ≡ 0 → ⊥) → Skipped (placed p) s q (n - 1) (n - 1) z → z ≡ No o f → Where (rule p k) s at (last_list p k at) r
+    pub last_list_never : {z : Read} {f : Fault} {o : ℕ} → (n ≡ 0 → ⊥) → Skipped (placed p) s q (n - 1) (n - 1) z → z ≡ No o f → Where (rule p k) s at (last_list p k at) r
     unfolding Where
-    last_list-never e g j x b = element-never p s at k x b i h (n - 1) _ (omega arith) g j
+    last_list_never e g j x b = element_never p s at k x b i h (n - 1) _ (omega arith) g j
 
-    pub last_list-is : {z : Read} {u o : ℕ} → (n ≡ 0 → ⊥) → Skipped (placed p) s q (n - 1) (n - 1) z → z ≡ Got o u → Carries p s o (n - 1) list_of r → Where (rule p k) s at (last_list p k at) r
+    pub last_list_is : {z : Read} {u o : ℕ} → (n ≡ 0 → ⊥) → Skipped (placed p) s q (n - 1) (n - 1) z → z ≡ Got o u → Carries p s o (n - 1) list_of r → Where (rule p k) s at (last_list p k at) r
     unfolding Where
-    last_list-is e g j m x b =
-        of-element p s at k x b i h (n - 1) _ (omega arith) g (No 0 Fault.Last) list_of r j m
-        ∙ ap (λ (l : ℕ). of_element (No 0 Fault.Last) list_of p k (l - 1) at x) (elements-are p s at k x b i h).0
+    last_list_is e g j m x b =
+        of_element_lem p s at k x b i h (n - 1) _ (omega arith) g (No 0 Fault.Last) list_of r j m
+        ∙ ap (λ (l : ℕ). of_element (No 0 Fault.Last) list_of p k (l - 1) at x) (elements_are p s at k x b i h).0
 
 -- ---- what it tells of the rule's elements
 
@@ -85,13 +85,13 @@ module _ (p : Product) (s : List ℕ) (at k : ℕ) (r : Read) {c : Read} (i : El
 unfoldable pub leading : ℕ → ℕ → List ℕ
 leading j id = pick (eqb j 0) (spelt 4 id) (spelt 2 0x8001 ++ spelt 4 id)
 
-leading-long : (j id : ℕ) → length (leading j id) ≡ pick (eqb j 0) 4 6
+leading_long : (j id : ℕ) → length (leading j id) ≡ pick (eqb j 0) 4 6
 unfolding leading pick
-leading-long j id = go (eqb j 0)
+leading_long j id = go (eqb j 0)
   where
     go : (b : Bool) → length (pick b (spelt 4 id) (spelt 2 0x8001 ++ spelt 4 id)) ≡ pick b 4 6
-    go true = length-spelt 4 id
-    go false = omega (arith, length_before 2 0x8001 (spelt 4 id), length-spelt 4 id)
+    go true = length_spelt 4 id
+    go false = omega (arith, length_before 2 0x8001 (spelt 4 id), length_spelt 4 id)
 
 -- a list as it is written: the number of words, the words
 pub list_written : (p : Product) (j id : ℕ) (ws : List Text) → row_in kinds id ≡ Row.Is Kind.WordList → (placed p j).write (id, words ws) ≡ leading j id ++ (spelt 4 (length ws) ++ each_write (λ i. word) 0 ws)
@@ -114,12 +114,12 @@ pub record EndsInList (k e : ℕ) (els : List Element) (c t : ℕ) : Type 0 wher
 -- data that tell of words are a list's
 words_are : (at : ℕ) (r : Row) (x : Data) {c t : ℕ} → (data_by r).Fit x → list_of at x ≡ Got t c → (r ≡ Row.Is Kind.WordList) × ((x ≡ words (words_of x)) × ((c ≡ length (words_of x)) × (t ≡ at)))
 unfolding word_data via
-words_are at (Row.Is Kind.Marker) x f h = unlike h (words-none _ _ Kind.Marker x f tt)
-words_are at (Row.Is (Kind.Simple r)) x f h = unlike h (words-none _ _ (Kind.Simple r) x f tt)
+words_are at (Row.Is Kind.Marker) x f h = unlike h (words_none _ _ Kind.Marker x f tt)
+words_are at (Row.Is (Kind.Simple r)) x f h = unlike h (words_none _ _ (Kind.Simple r) x f tt)
 words_are at (Row.Is Kind.WordList) x {c} {t} f h = let z : Got t c ≡ Got at (length (words_of x)) = sym h ∙ sym (ap (list_of at) f.1) in (refl, (sym f.1, ((cc), (cc))))
-words_are at (Row.Is (Kind.Size r)) x f h = unlike h (words-none _ _ (Kind.Size r) x f tt)
-words_are at (Row.Is (Kind.Dates r)) x f h = unlike h (words-none _ _ (Kind.Dates r) x f tt)
-words_are at (Row.No c q) x f h = unlike h (words-none _ _ (Kind.Simple Role.Condition) x f tt)
+words_are at (Row.Is (Kind.Size r)) x f h = unlike h (words_none _ _ (Kind.Size r) x f tt)
+words_are at (Row.Is (Kind.Dates r)) x f h = unlike h (words_none _ _ (Kind.Dates r) x f tt)
+words_are at (Row.No c q) x f h = unlike h (words_none _ _ (Kind.Simple Role.Condition) x f tt)
 
 pub ends_in_list : (p : Product) (s : List ℕ) (at k e : ℕ) (x : Rule) {c t : ℕ} → Held (rule p k) s at x → e ≡ enabled_at at x → last_list p k at x ≡ Got t c → EndsInList k e x.elements c t
 unfolding start_in head_bytes
@@ -128,7 +128,7 @@ ends_in_list p s at k e x b ee h =
     let j = length els - 1 in
     let a = start_in (placed p) (elements_at p k at x) els j in
     let l = (rule_fits p k x b.1.fit).0 in
-    let y = nth (placed p) s (elements_at p k at x) j a els b.0 refl (rule-elements p k s at x b.0 b.1) (omega arith) in
+    let y = nth (placed p) s (elements_at p k at x) j a els b.0 refl (rule_elements p k s at x b.0 b.1) (omega arith) in
     let id = y.x.0 in
     let w = words_are (data_at j a) (row_in kinds id) y.x.1 (placed_parts p j s a y.x y.tail y.stands).carries.fit (sym (ap (of_first (No 0 Fault.Last) list_of j a) y.whole) ∙ h) in
     let nil : y.ys ≡ [] = sym (ap (drop 1) y.whole) ∙ drop-drop 1 j els ∙ drop_of_length-le els {i = j + 1} (omega arith) in
@@ -138,17 +138,17 @@ ends_in_list p s at k e x b ee h =
       is = y.whole ∙ ap (λ (ys : List Element). y.x ∷ ys) nil ∙ ap (λ (d : Data). (id, d) ∷ []) w.1.0;
       row = w.0;
       many = w.1.1.0;
-      place = omega (arith, w.1.1.1, ee, (rule_parts p k s at x b.0 b.1).begins, ap length (inner_as p (take j els)), length-append (inner (take j els)) (leading j id), leading-long j id);
+      place = omega (arith, w.1.1.1, ee, (rule_parts p k s at x b.0 b.1).begins, ap length (inner_as p (take j els)), length-append (inner (take j els)) (leading j id), leading_long j id);
     }
 
 -- other elements are none
 no_list : {A : Type 0} {c : Fault} {q : ℕ} → No 0 Fault.Last ≡ No q c → ◌≡◌ {A = Plan A} (refuse Fault.Last 0) (refuse c q)
 no_list {c} {q} h = let e : c ≡ Fault.Last = cc in let z : q ≡ 0 = cc in rw (e, z)
 
-pub list-none : {A : Type 0} (j at : ℕ) (xs : List Element) {c : Fault} {q : ℕ} → of_first (No 0 Fault.Last) list_of j at xs ≡ No q c → (g : ℕ → List Text → Plan A) → at_list xs g ≡ refuse c q
+pub list_none : {A : Type 0} (j at : ℕ) (xs : List Element) {c : Fault} {q : ℕ} → of_first (No 0 Fault.Last) list_of j at xs ≡ No q c → (g : ℕ → List Text → Plan A) → at_list xs g ≡ refuse c q
 unfolding at_list
-list-none j at [] h g = no_list h
-list-none j at ((id, plain) ∷ xs) h g = no_list h
-list-none j at ((id, words ws) ∷ xs) h g = unlike refl h
-list-none j at ((id, sizes a b) ∷ xs) h g = no_list h
-list-none j at ((id, span a b) ∷ xs) h g = no_list h
+list_none j at [] h g = no_list h
+list_none j at ((id, plain) ∷ xs) h g = no_list h
+list_none j at ((id, words ws) ∷ xs) h g = unlike refl h
+list_none j at ((id, sizes a b) ∷ xs) h g = no_list h
+list_none j at ((id, span a b) ∷ xs) h g = no_list h

@@ -1,10 +1,10 @@
-use Rattle.listed.specs.Laws.Listed.{on-is, on_none}
+use Rattle.listed.specs.Laws.Listed.{on_is, on_none}
 use borrow.Author.Rules.{rules}
 use Rattle.listed.proofs.is_on.Statement.{statement}
 use Rattle.listed.proofs.is_on.Tie as tie
 
 returns : tie.Need-returns
-returns c = on-is _ _ c.before.before.before.u32-at.ensures c.before.r.given.1
+returns c = on_is _ _ c.before.before.before.u32-at.ensures c.before.r.given.1
 
 returns-2 : tie.Need-returns-2
 returns-2 c = on_none _ _ c.before.before.u32-at.ensures c.enum_told.given.1

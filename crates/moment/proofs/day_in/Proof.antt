@@ -1,5 +1,5 @@
 use native.Mathlib.Omega.{arith}
-use Rattle.moment.proofs.Shift.{whole-small, whole_before, day-before, day_after}
+use Rattle.moment.proofs.Shift.{whole_small, whole_before, day_before, day_after}
 use borrow.Author.Rules.{rules}
 use Rattle.moment.proofs.day_in.Statement.{statement}
 use Rattle.moment.proofs.day_in.Tie as tie
@@ -8,10 +8,10 @@ sub-result : tie.Need-overflow-sub-result
 sub-result c = let s = c.before.before in omega (arith, c.before.whole_of.ensures, whole_before s.args.bits s.requires c.if1.true)
 
 returns : tie.Need-returns
-returns c = day-before c.before.before.args.bits _ c.before.whole_of.ensures c.if1.true
+returns c = day_before c.before.before.args.bits _ c.before.whole_of.ensures c.if1.true
 
 add-result : tie.Need-overflow-add-result
-add-result c = let s = c.before.before in omega (arith, c.before.whole_of.ensures, whole-small s.args.bits s.requires)
+add-result c = let s = c.before.before in omega (arith, c.before.whole_of.ensures, whole_small s.args.bits s.requires)
 
 returns-2 : tie.Need-returns-2
 returns-2 c = day_after c.before.before.args.bits _ c.before.whole_of.ensures c.if1.false

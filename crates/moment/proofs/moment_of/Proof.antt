@@ -1,5 +1,5 @@
 use mathlib.Core.Path.{sym, ◌∙◌}
-use Rattle.moment.specs.Laws.Moment.{says_at, says-no}
+use Rattle.moment.specs.Laws.Moment.{says_at, says_no}
 use borrow.Author.Rules.{rules}
 use Rattle.moment.proofs.moment_of.Statement.{statement}
 use Rattle.moment.proofs.moment_of.Tie as tie
@@ -17,7 +17,7 @@ returns c =
     says_at _ _ _ (sym d.before.is-date.ensures ∙ d.if1.true) (r.0, r.1 ∙ c.before.before.day-in.ensures) c.second-in.ensures
 
 returns-2 : tie.Need-returns-2
-returns-2 c = says-no _ (sym c.before.is-date.ensures ∙ c.if1.false)
+returns-2 c = says_no _ (sym c.before.is-date.ensures ∙ c.if1.false)
 
 pub moment-of-spec : {M : Type 1} → statement M
 moment-of-spec =

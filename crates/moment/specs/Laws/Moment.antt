@@ -8,9 +8,9 @@ use Rattle.date.specs.Double.{accepted}
 use Rattle.moment.specs.declared.Moment.TheVariants.{At, No}
 use Rattle.moment.specs.Moment.{origin, day_in, second_in, Says}
 
-pub origin-is : origin ≡ 657434
+pub origin_is : origin ≡ 657434
 unfolding origin day_of years_days months_days leap
-origin-is = refl
+origin_is = refl
 
 -- as the code finds it
 module _ (bits : ℕ) where
@@ -18,6 +18,6 @@ module _ (bits : ℕ) where
   unfolding Says
   says_at c second e d h = rw (e, h) (c, (d, refl))
 
-  pub says-no : accepted bits ≡ false → Says bits (No Fault.Date 0)
+  pub says_no : accepted bits ≡ false → Says bits (No Fault.Date 0)
   unfolding Says
-  says-no e = rw e refl
+  says_no e = rw e refl

@@ -22,17 +22,17 @@ moment_from (Outcome.Done n, (y ∷ (m ∷ (d ∷ (s ∷ later))))) = At (record
 moment_from (Outcome.No c q, vs) = No c q
 moment_from (Outcome.Given c q, vs) = No c q
 
-moment-from : (r : Moment) → moment_from (moment_says r) ≡ r
-moment-from (At c s) = refl
-moment-from (No f p) = refl
+moment_from_lem : (r : Moment) → moment_from (moment_says r) ≡ r
+moment_from_lem (At c s) = refl
+moment_from_lem (No f p) = refl
 
-pub said-one : (b : Bool) (bits : ℕ) (x y : Said) → SaysBy b bits x → SaysBy b bits y → x ≡ y
-said-one true bits x y f g = f.1.1 ∙ ap (λ (c : Civil). moment_says (At c (second_in bits))) (unique f.0 g.0 f.1.0.0 g.1.0.0 (f.1.0.1 ∙ sym g.1.0.1)) ∙ sym g.1.1
-said-one false bits x y f g = f ∙ sym g
+pub said_one : (b : Bool) (bits : ℕ) (x y : Said) → SaysBy b bits x → SaysBy b bits y → x ≡ y
+said_one true bits x y f g = f.1.1 ∙ ap (λ (c : Civil). moment_says (At c (second_in bits))) (unique f.0 g.0 f.1.0.0 g.1.0.0 (f.1.0.1 ∙ sym g.1.0.1)) ∙ sym g.1.1
+said_one false bits x y f g = f ∙ sym g
 
-pub says-one : (bits : ℕ) (r q : Moment) → Says bits r → Says bits q → r ≡ q
+pub says_one : (bits : ℕ) (r q : Moment) → Says bits r → Says bits q → r ≡ q
 unfolding Says
-says-one bits r q f g = sym (moment-from r) ∙ ap moment_from (said-one (accepted bits) bits (moment_says r) (moment_says q) f g) ∙ moment-from q
+says_one bits r q f g = sym (moment_from_lem r) ∙ ap moment_from (said_one (accepted bits) bits (moment_says r) (moment_says q) f g) ∙ moment_from_lem q
 
 -- ---- what is shown of a date is its day by the calendar, and its second
 
@@ -47,16 +47,16 @@ second_of (No f p) = 0
 pub record Shown (bits : ℕ) (c : Civil) (second : ℕ) : Type 0 where
   pub date : accepted bits ≡ true
   pub valid : Valid c
-  pub on-day : day_of c ≡ day_in bits
+  pub on_day : day_of c ≡ day_in bits
   pub at : second ≡ second_in bits
 
-pub says-shown : (bits : ℕ) (c : Civil) (s : ℕ) → Says bits (At c s) → Shown bits c s
+pub says_shown : (bits : ℕ) (c : Civil) (s : ℕ) → Says bits (At c s) → Shown bits c s
 unfolding Says
-says-shown bits c s = go (accepted bits) refl
+says_shown bits c s = go (accepted bits) refl
   where
     go : (b : Bool) → accepted bits ≡ b → SaysBy b bits (moment_says (At c s)) → Shown bits c s
     go true e f =
         let m : At c s ≡ At f.0 (second_in bits) = ap moment_from f.1.1 in
         let w : c ≡ f.0 = ap civil_in m in
-        record { date = e; valid = rw w f.1.0.0; on-day = rw w f.1.0.1; at = ap second_of m }
+        record { date = e; valid = rw w f.1.0.0; on_day = rw w f.1.0.1; at = ap second_of m }
     go false e f = absurd (let z : ◌≡◌ {A = ℕ} 0 1 = (let w : At c s ≡ No Fault.Date 0 = ap moment_from f in cc) in omega arith)

@@ -4,14 +4,14 @@ use Rattle.std.proofs.Common.{arith}
 use Rattle.format.specs.declared.Fault.{Fault}
 use Rattle.format.specs.declared.Read.{Read}
 use Rattle.format.specs.declared.Read.TheVariants as Read
-use Rattle.format.specs.Laws.Back.{Where, stands-room}
+use Rattle.format.specs.Laws.Back.{Where, stands_room}
 use Rattle.text.specs.declared.StringRead.{StringRead}
 use Rattle.text.specs.Text.{length_of, string}
-use Rattle.text.specs.Laws.Seen.{text_seen, text-back}
+use Rattle.text.specs.Laws.Seen.{text_seen, text_back}
 use Rattle.rule.specs.Rule.{rule}
 use Rattle.rule.specs.Laws.Places.{rule_parts}
 use Rattle.steps.specs.Laws.Starts.{Starts}
-use Rattle.asked.specs.Laws.Asked.{Tells, finds, finds-never}
+use Rattle.asked.specs.Laws.Asked.{Tells, finds, finds_never}
 use Rattle.view.specs.declared.View.{View}
 use Rattle.view.specs.Laws.View.{units_of, units_of_lem}
 use Rattle.name_view.specs.Name.{name_at}
@@ -19,15 +19,15 @@ use Rattle.name_view.specs.Name.{name_at}
 -- r is what was told of the rule's start, t what its name was read as
 module _ (version : ℕ) (s : List ℕ) (base k : ℕ) (v : View) {r : Read} where
   pub name_unreached : {c : Fault} {q : ℕ} → Starts s version base k r → r ≡ Read.No q c → Tells version s base k name_at v
-  name_unreached w i p = finds-never p version s base k name_at v w i
+  name_unreached w i p = finds_never p version s base k name_at v w i
 
   -- a rule has the 4 bytes of its signature
   pub name_cut : {u at w : ℕ} → Starts s version base k r → r ≡ Read.Got at u → w ≡ length s - at → w < 4 → Tells version s base k name_at v
   unfolding Where
-  name_cut {at = at} w i e l p = finds p version s base k name_at v w i (λ x b. absurd (omega (arith, stands-room (rule p k) s at b.1, (rule_parts p k s at x b.0 b.1).ends)))
+  name_cut {at = at} w i e l p = finds p version s base k name_at v w i (λ x b. absurd (omega (arith, stands_room (rule p k) s at b.1, (rule_parts p k s at x b.0 b.1).ends)))
 
-  pub name-is : {u at : ℕ} {t : StringRead} → Starts s version base k r → r ≡ Read.Got at u → t ≡ text_seen length_of string s (at + 4) → v ≡ units_of (length s) t → Tells version s base k name_at v
+  pub name_is : {u at : ℕ} {t : StringRead} → Starts s version base k r → r ≡ Read.Got at u → t ≡ text_seen length_of string s (at + 4) → v ≡ units_of (length s) t → Tells version s base k name_at v
   unfolding Where
-  name-is {at = at} w i e h p = finds p version s base k name_at v w i (λ x b.
+  name_is {at = at} w i e h p = finds p version s base k name_at v w i (λ x b.
       let y = rule_parts p k s at x b.0 b.1 in
-      units_of_lem (length s) (at + 4) x.name h (text-back length_of string s (at + 4) y.named.1 e) (omega (arith, stands-room (rule p k) s at b.1, y.ends)))
+      units_of_lem (length s) (at + 4) x.name h (text_back length_of string s (at + 4) y.named.1 e) (omega (arith, stands_room (rule p k) s at b.1, y.ends)))

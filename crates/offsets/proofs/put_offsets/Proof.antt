@@ -3,7 +3,7 @@ use native.Mathlib.Omega.{arith}
 use mathlib.Core.Path.{◌≡◌, refl, ◌∙◌}
 use lib.ListN.{length}
 use borrow.Author.Rules.{rules}
-use Rattle.offsets.specs.Laws.Offsets.{Puts, puts-start, puts-go, puts-never, puts-done, offsets-many}
+use Rattle.offsets.specs.Laws.Offsets.{Puts, puts_start, puts_go, puts_never, puts_done, offsets_many}
 use Rattle.offsets.proofs.put_offsets.Statement.{statement}
 use Rattle.offsets.proofs.put_offsets.Tie as tie
 
@@ -15,7 +15,7 @@ decreases-loop buf₀ rules i₀ p₀ buf i p = rules - i
 
 -- src/lib.rt:10:9
 returns : tie.Need-returns invariant-loop decreases-loop
-returns c = offsets-many _ _ c.if1.true
+returns c = offsets_many _ _ c.if1.true
 
 -- src/lib.rt:13:21
 mul-p : tie.Need-overflow-mul-p invariant-loop decreases-loop
@@ -27,7 +27,7 @@ add-p c = omega (arith, c.if1.false)
 
 -- src/lib.rt:14:5
 loop-holds : tie.Need-loop-init invariant-loop decreases-loop
-loop-holds c = (puts-start _ _, (search rules, refl))
+loop-holds c = (puts_start _ _, (search rules, refl))
 
 -- src/lib.rt:15:37
 mul-put-number : tie.Need-overflow-mul-put-number invariant-loop decreases-loop
@@ -59,7 +59,7 @@ same_length c = c.before.before.before.before.before.before.put-number.auto.0 �
 
 -- src/lib.rt:18:13
 returns-2 : tie.Need-returns-2 invariant-loop decreases-loop
-returns-2 c = puts-never _ _ _ _ _ _ _ c.before.before.before.before.before.before.before.before.loop-test.true c.before.before.before.before.before.before.before.before.before.loop.invariant.0 c.before.before.before.before.before.before.put-number.ensures c.before.before.end_of_lem.ensures c.enum_told.given.1
+returns-2 c = puts_never _ _ _ _ _ _ _ c.before.before.before.before.before.before.before.before.loop-test.true c.before.before.before.before.before.before.before.before.before.loop.invariant.0 c.before.before.before.before.before.before.put-number.ensures c.before.before.end_of_lem.ensures c.enum_told.given.1
 
 -- src/lib.rt:21:9
 add-i : tie.Need-overflow-add-i invariant-loop decreases-loop
@@ -71,7 +71,7 @@ loop-less c = search rules
 
 -- src/lib.rt:14:5
 loop-again : tie.Need-loop-preserved invariant-loop decreases-loop
-loop-again c = (puts-go _ _ _ _ _ _ c.before.before.before.before.before.before.before.before.before.loop-test.true c.before.before.before.before.before.before.before.before.before.before.loop.invariant.0 c.before.before.before.before.before.before.before.put-number.ensures c.before.before.before.end_of_lem.ensures c.before.r.given.1, (omega (arith, c.before.before.before.before.before.before.before.before.before.loop-test.true), c.before.before.before.before.before.before.before.put-number.auto.0 ∙ c.before.before.before.before.before.before.before.before.before.before.loop.invariant.1.1))
+loop-again c = (puts_go _ _ _ _ _ _ c.before.before.before.before.before.before.before.before.before.loop-test.true c.before.before.before.before.before.before.before.before.before.before.loop.invariant.0 c.before.before.before.before.before.before.before.put-number.ensures c.before.before.before.end_of_lem.ensures c.before.r.given.1, (omega (arith, c.before.before.before.before.before.before.before.before.before.loop-test.true), c.before.before.before.before.before.before.before.put-number.auto.0 ∙ c.before.before.before.before.before.before.before.before.before.before.loop.invariant.1.1))
 
 -- src/lib.rt:6:1
 same-length-2 : tie.Need-same-length-2 invariant-loop decreases-loop
@@ -79,7 +79,7 @@ same-length-2 c = c.before.loop.invariant.1.1
 
 -- src/lib.rt:6:1
 returns-3 : tie.Need-returns-3 invariant-loop decreases-loop
-returns-3 c = puts-done _ _ _ _ _ (omega (arith, c.loop-test.false)) c.before.loop.invariant.1.0 c.before.loop.invariant.0
+returns-3 c = puts_done _ _ _ _ _ (omega (arith, c.loop-test.false)) c.before.loop.invariant.1.0 c.before.loop.invariant.0
 
 pub put-offsets-spec : {M : Type 1} → statement M
 put-offsets-spec =

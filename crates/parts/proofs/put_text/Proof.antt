@@ -1,13 +1,13 @@
-use Rattle.parts.specs.Laws.Text.{text-long, text-short}
+use Rattle.parts.specs.Laws.Text.{text_long, text_short}
 use borrow.Author.Rules.{rules}
 use Rattle.parts.proofs.put_text.Statement.{statement}
 use Rattle.parts.proofs.put_text.Tie as tie
 
 returns : tie.Need-returns
-returns c = search (rules, text-long, text-short)
+returns c = search (rules, text_long, text_short)
 
 returns-2 : tie.Need-returns-2
-returns-2 c = search (rules, text-long, text-short)
+returns-2 c = search (rules, text_long, text_short)
 
 pub put-text-spec : {M : Type 1} → statement M
 put-text-spec =

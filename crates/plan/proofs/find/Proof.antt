@@ -1,6 +1,6 @@
 use mathlib.Core.Path.{sym}
 use lib.Seq.{length-take-le}
-use Rattle.plan.specs.Laws.Found.{found_none, found_beyond, found-is}
+use Rattle.plan.specs.Laws.Found.{found_none, found_beyond, found_is}
 use native.Mathlib.Omega.{arith}
 use borrow.Author.Rules.{rules}
 use Rattle.plan.proofs.find.Statement.{statement}
@@ -16,7 +16,7 @@ slice-aggregate-deck : tie.Need-slice-aggregate-deck
 slice-aggregate-deck c = sym (length-take-le _ _ (omega arith))
 
 returns-3 : tie.Need-returns-3
-returns-3 c = search (rules, found-is)
+returns-3 c = search (rules, found_is)
 
 pub find_spec : {M : Type 1} → statement M
 find_spec =

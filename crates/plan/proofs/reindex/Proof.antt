@@ -1,24 +1,24 @@
 use native.Mathlib.Omega.{arith}
-use Rattle.plan.specs.Laws.Finish.{reindex-never, reindex-is}
+use Rattle.plan.specs.Laws.Finish.{reindex_never, reindex_is}
 use borrow.Author.Rules.{rules}
 use Rattle.plan.proofs.reindex.Statement.{statement}
 use Rattle.plan.proofs.reindex.Tie as tie
 
 -- src/lib.rt:46:9
 returns : tie.Need-returns
-returns c = reindex-never _ _ _ _ _ _ (λ a b e g h. omega arith)
+returns c = reindex_never _ _ _ _ _ _ (λ a b e g h. omega arith)
 
 -- src/lib.rt:49:9
 returns-2 : tie.Need-returns-2
-returns-2 c = reindex-never _ _ _ _ _ _ (λ a b e g h. omega arith)
+returns-2 c = reindex_never _ _ _ _ _ _ (λ a b e g h. omega arith)
 
 -- src/lib.rt:52:9
 returns-3 : tie.Need-returns-3
-returns-3 c = reindex-never _ _ _ _ _ _ (λ a b e g h. omega arith)
+returns-3 c = reindex_never _ _ _ _ _ _ (λ a b e g h. omega arith)
 
 -- src/lib.rt:55:9
 returns-4 : tie.Need-returns-4
-returns-4 c = reindex-never _ _ _ _ _ _ (λ a b e g h. omega arith)
+returns-4 c = reindex_never _ _ _ _ _ _ (λ a b e g h. omega arith)
 
 -- src/lib.rt:57:16
 mul-room : tie.Need-overflow-mul-room
@@ -34,7 +34,7 @@ sub-if5 c = search rules
 
 -- src/lib.rt:60:9
 returns-5 : tie.Need-returns-5
-returns-5 c = reindex-never _ _ _ _ _ _ (λ a b e g h. omega arith)
+returns-5 c = reindex_never _ _ _ _ _ _ (λ a b e g h. omega arith)
 
 -- src/lib.rt:62:5
 open-requires : tie.Need-open-requires
@@ -58,7 +58,7 @@ same_length c = search rules
 
 -- src/lib.rt:42:1
 returns-6 : tie.Need-returns-6
-returns-6 c = reindex-is _ _ _ _ _ (omega arith) c.before.before.before.before.before.before.before.before.before.before.«open».ensures c.before.before.before.before.before.before.put-number.ensures c.before.before.put-offsets.ensures
+returns-6 c = reindex_is _ _ _ _ _ (omega arith) c.before.before.before.before.before.before.before.before.before.before.«open».ensures c.before.before.before.before.before.before.put-number.ensures c.before.before.put-offsets.ensures
 
 pub reindex-spec : {M : Type 1} → statement M
 reindex-spec =

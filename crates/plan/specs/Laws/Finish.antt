@@ -8,24 +8,24 @@ use Rattle.std.proofs.Math.ListN.{length, length-append}
 use Rattle.format.specs.declared.Outcome.{Outcome}
 use Rattle.format.specs.declared.Outcome.TheVariants as Outcome
 use Rattle.format.specs.ReadWrite.{spelt, AllFit}
-use Rattle.format.specs.Laws.ReadWrite.{length-spelt}
+use Rattle.format.specs.Laws.ReadWrite.{length_spelt}
 use Rattle.kind.specs.declared.Product.{Product}
 use Rattle.rule.specs.Rule.{Rule, rule}
 use Rattle.deck.specs.Deck.{wide, base_of}
 use Rattle.deck.specs.Written.{written}
-use Rattle.deck.specs.Laws.Deck.{wide-two, wide-none, base-is}
-use Rattle.deck.specs.Laws.Written.{opening, opening-long, index, offsets-long, lead, rules, written_is, written-long, behind-long}
+use Rattle.deck.specs.Laws.Deck.{wide_two, wide_none, base_is}
+use Rattle.deck.specs.Laws.Written.{opening, opening_long, index, offsets_long, lead, rules, written_is, written_long, behind_long}
 use Rattle.buffer.specs.Laid.{put_in}
 use Rattle.buffer.specs.Laws.Laid.{opened}
-use Rattle.buffer.specs.Laws.Holds.{Holds, Gap, holds-length, holds-put, holds_open}
+use Rattle.buffer.specs.Laws.Holds.{Holds, Gap, holds_length, holds_put, holds_open}
 use Rattle.room.specs.Room.{room_for}
-use Rattle.room.specs.Laws.Room.{Roomy, roomy, room-is}
+use Rattle.room.specs.Laws.Room.{Roomy, roomy, room_is}
 use Rattle.spot.specs.declared.Site.{Site}
 use Rattle.offsets.specs.Laws.Offsets.{Offsets, up_to}
 use Rattle.plan.specs.Edit.{Plan, become}
 use Rattle.plan.specs.Laws.Fits.{Every, Fits, all_fit}
 use Rattle.plan.specs.Laws.Found.{Does, Sits}
-use Rattle.plan.specs.Laws.Makes.{made-is}
+use Rattle.plan.specs.Laws.Makes.{made_is}
 
 -- whatever rules rs were found and xs stand there, m of them, to n: y becomes y', which holds their deck, r bytes long
 unfoldable pub Finishes : Site → ℕ → ℕ → List ℕ → ℕ → List ℕ → Type 0
@@ -38,47 +38,47 @@ nothing [] e = refl
 nothing (x ∷ t) e = absurd (omega arith)
 
 pub no_index : (v : ℕ) (rs : List Rule) → 0 ≡ wide v → index v rs ≡ []
-no_index v rs e = nothing (index v rs) (offsets-long v rs ∙ rw (← e) (zero-mul (length rs)))
+no_index v rs e = nothing (index v rs) (offsets_long v rs ∙ rw (← e) (zero-mul (length rs)))
 
 module _ (f : Site) (m n : ℕ) (y : List ℕ) (w : f.version ≡ 2 → ⊥) where
   -- the deck with another number of rules
-  counted-deck : (v : ℕ) (rs xs : List Rule) → f.version ≡ v → lead v rs ++ rules 0 xs ≡ opening v ++ (spelt 2 (length rs) ++ rules 0 xs)
+  counted_deck : (v : ℕ) (rs xs : List Rule) → f.version ≡ v → lead v rs ++ rules 0 xs ≡ opening v ++ (spelt 2 (length rs) ++ rules 0 xs)
   unfolding lead
-  counted-deck v rs xs e = rw (no_index v rs (wide-none (rw e at w)), append-nil) (append_assoc (opening v) (spelt 2 (length rs)) (rules 0 xs))
+  counted_deck v rs xs e = rw (no_index v rs (wide_none (rw e at w)), append-nil) (append_assoc (opening v) (spelt 2 (length rs)) (rules 0 xs))
 
   same_length : (v : ℕ) (rs xs : List Rule) → f.version ≡ v → length (written v xs) ≡ length (lead v rs ++ rules 0 xs)
   same_length v rs xs e =
-      let a : length (lead v rs ++ rules 0 xs) ≡ 5 + (2 + length (rules 0 xs)) = ap length (counted-deck v rs xs e) ∙ simp (length-append, length-spelt, opening-long) in
-      let b : length (written v xs) ≡ 5 + (2 + length (rules 0 xs)) = ap length (written_is v xs ∙ counted-deck v xs xs e) ∙ simp (length-append, length-spelt, opening-long) in
+      let a : length (lead v rs ++ rules 0 xs) ≡ 5 + (2 + length (rules 0 xs)) = ap length (counted_deck v rs xs e) ∙ simp (length-append, length_spelt, opening_long) in
+      let b : length (written v xs) ≡ 5 + (2 + length (rules 0 xs)) = ap length (written_is v xs ∙ counted_deck v xs xs e) ∙ simp (length-append, length_spelt, opening_long) in
       b ∙ sym a
 
-  pub finish-kept : m ≡ f.rules → Finishes f m n y n y
+  pub finish_kept : m ≡ f.rules → Finishes f m n y n y
   unfolding Finishes
-  finish-kept h p v rs xs d hi ev er eb em en g room k =
+  finish_kept h p v rs xs d hi ev er eb em en g room k =
       let l = same_length v rs xs ev in
-      let i : lead v rs ++ rules 0 xs ≡ written v xs = counted-deck v rs xs ev ∙ ap (λ (c : ℕ). opening v ++ (spelt 2 c ++ rules 0 xs)) (sym er ∙ sym h ∙ em) ∙ sym (written_is v xs ∙ counted-deck v xs xs ev) in
+      let i : lead v rs ++ rules 0 xs ≡ written v xs = counted_deck v rs xs ev ∙ ap (λ (c : ℕ). opening v ++ (spelt 2 c ++ rules 0 xs)) (sym er ∙ sym h ∙ em) ∙ sym (written_is v xs ∙ counted_deck v xs xs ev) in
       let z : max hi (length (written v xs)) ≡ hi = omega (arith, k.short, l) in
       (en ∙ sym l, rw (z, ← i) k)
 
-  pub finish-is : {y' : List ℕ} → y' ≡ put_in y 5 (spelt 2 m) → Finishes f m n y n y'
+  pub finish_is : {y' : List ℕ} → y' ≡ put_in y 5 (spelt 2 m) → Finishes f m n y n y'
   unfolding Finishes
-  finish-is e p v rs xs d hi ev er eb em en g room k =
+  finish_is e p v rs xs d hi ev er eb em en g room k =
       let R = rules 0 xs in
-      let u = holds-put (opening v) (spelt 2 (length rs)) R (spelt 2 m) k (counted-deck v rs xs ev) (opening-long v) (length-spelt 2 (length rs) ∙ sym (length-spelt 2 m)) e in
-      let t : opening v ++ (spelt 2 m ++ R) ≡ written v xs = rw em (sym (written_is v xs ∙ counted-deck v xs xs ev)) in
+      let u = holds_put (opening v) (spelt 2 (length rs)) R (spelt 2 m) k (counted_deck v rs xs ev) (opening_long v) (length_spelt 2 (length rs) ∙ sym (length_spelt 2 m)) e in
+      let t : opening v ++ (spelt 2 m ++ R) ≡ written v xs = rw em (sym (written_is v xs ∙ counted_deck v xs xs ev)) in
       let l = same_length v rs xs ev in
       let z : max hi (length (written v xs)) ≡ hi = omega (arith, k.short, l) in
       (en ∙ sym l, rw (z, ← t) u)
 
 -- ---- offsets of four bytes: they give way to those of the rules that stand there
-base-two : (v n : ℕ) → v ≡ 2 → base_of v n ≡ 7 + 4 * n
-base-two v n e = sym (base-is v n (wide-two e))
+base_two : (v n : ℕ) → v ≡ 2 → base_of v n ≡ 7 + 4 * n
+base_two v n e = sym (base_is v n (wide_two e))
 
-pub index-two : (v m : ℕ) (xs : List Rule) → v ≡ 2 → m ≡ length xs → up_to m m xs ≡ index v xs
+pub index_two : (v m : ℕ) (xs : List Rule) → v ≡ 2 → m ≡ length xs → up_to m m xs ≡ index v xs
 unfolding index
-index-two v m xs e em =
+index_two v m xs e em =
     let t : take m xs ≡ xs = take_all m xs (omega arith) in
-    rw (t, ← wide-two e, em)
+    rw (t, ← wide_two e, em)
 
 -- rules xs behind what stands before rs: how long that is, and their deck
 record Two (v base m n : ℕ) (rs xs : List Rule) : Type 0 where
@@ -88,20 +88,20 @@ record Two (v base m n : ℕ) (rs xs : List Rule) : Type 0 where
 
 two : (v base m n : ℕ) (rs xs : List Rule) → v ≡ 2 → base ≡ base_of v (length rs) → m ≡ length xs → n ≡ length (lead v rs ++ rules 0 xs) → Two v base m n rs xs
 two v base m n rs xs e eb em en =
-    let a = base-two v (length rs) e in
-    let b = base-two v (length xs) e in
-    record { starts = eb ∙ a; ends = omega (arith, en, behind-long v rs xs, eb); long = omega (arith, written-long v xs, b, em) }
+    let a = base_two v (length rs) e in
+    let b = base_two v (length xs) e in
+    record { starts = eb ∙ a; ends = omega (arith, en, behind_long v rs xs, eb); long = omega (arith, written_long v xs, b, em) }
 
 -- whatever was found in version 2
 unfoldable pub Reindexes : ℕ → ℕ → ℕ → List ℕ → ℕ → List ℕ → Type 0
 Reindexes base m n y r y' = (f : Site) → f.version ≡ 2 → f.base ≡ base → Finishes f m n y r y'
 
 module _ (base m n : ℕ) (y : List ℕ) where
-  pub reindex-never : (r : ℕ) (y' : List ℕ) → (m ≤ 256 → 7 ≤ base → base ≤ n → n ≤ length y → n - (base - 7) + 4 * m ≤ length y → ⊥) → Reindexes base m n y r y'
+  pub reindex_never : (r : ℕ) (y' : List ℕ) → (m ≤ 256 → 7 ≤ base → base ≤ n → n ≤ length y → n - (base - 7) + 4 * m ≤ length y → ⊥) → Reindexes base m n y r y'
   unfolding Reindexes Finishes
-  reindex-never r y' h f ef ez p v rs xs d hi ev er eb em en g room k =
+  reindex_never r y' h f ef ez p v rs xs d hi ev er eb em en g room k =
       let t = two v base m n rs xs (sym ev ∙ ef) (sym ez ∙ eb) em en in
-      let l = holds-length k in
+      let l = holds_length k in
       absurd (h room.few (omega (arith, t.starts)) (omega (arith, t.ends)) (omega (arith, l, k.short, k.room, en)) (omega (arith, l, t.ends, t.starts, t.long, room.inside)))
 
   -- the room that opens, filled
@@ -114,30 +114,30 @@ module _ (base m n : ℕ) (y : List ℕ) where
       let P = opening v ++ spelt 2 m in
       let i : (opening v ++ spelt 2 (length rs)) ++ (G ++ R) ≡ opening v ++ (spelt 2 (length rs) ++ (G ++ R)) = append_assoc (opening v) (spelt 2 (length rs)) (G ++ R) in
       let j : opening v ++ (spelt 2 m ++ (G ++ R)) ≡ P ++ (G ++ R) = sym (append_assoc (opening v) (spelt 2 m) (G ++ R)) in
-      let h = holds-put (opening v) (spelt 2 (length rs)) (G ++ R) (spelt 2 m) g.holds i (opening-long v) (length-spelt 2 (length rs) ∙ sym (length-spelt 2 m)) e₂ in
-      let l : length P ≡ 7 = omega (arith, length-append (opening v) (spelt 2 m), opening-long v, length-spelt 2 m) in
-      let w : P ++ (up_to m m xs ++ R) ≡ written v xs = rw (index-two v m xs e em) (rw em (sym (written_is v xs ∙ simp append_assoc))) in
+      let h = holds_put (opening v) (spelt 2 (length rs)) (G ++ R) (spelt 2 m) g.holds i (opening_long v) (length_spelt 2 (length rs) ∙ sym (length_spelt 2 m)) e₂ in
+      let l : length P ≡ 7 = omega (arith, length-append (opening v) (spelt 2 m), opening_long v, length_spelt 2 m) in
+      let w : P ++ (up_to m m xs ++ R) ≡ written v xs = rw (index_two v m xs e em) (rw em (sym (written_is v xs ∙ simp append_assoc))) in
       rw w at (o p xs P G d hi few l g.long em f (rw j at h))
 
-  pub reindex-is : {y₁ y₂ : List ℕ} (y₃ : List ℕ) → m ≤ 256 → y₁ ≡ opened y n 7 base (4 * m) → y₂ ≡ put_in y₁ 5 (spelt 2 m) → Offsets m y₂ y₃ → Reindexes base m n y (n - (base - 7) + 4 * m) y₃
+  pub reindex_is : {y₁ y₂ : List ℕ} (y₃ : List ℕ) → m ≤ 256 → y₁ ≡ opened y n 7 base (4 * m) → y₂ ≡ put_in y₁ 5 (spelt 2 m) → Offsets m y₂ y₃ → Reindexes base m n y (n - (base - 7) + 4 * m) y₃
   unfolding Reindexes Finishes lead
-  reindex-is y₃ few e₁ e₂ o f ef ez p v rs xs d hi ev er eb em en g room k =
+  reindex_is y₃ few e₁ e₂ o f ef ez p v rs xs d hi ev er eb em en g room k =
       let R = rules 0 xs in
       let P = opening v ++ spelt 2 (length rs) in
       let e : v ≡ 2 = sym ev ∙ ef in
       let t = two v base m n rs xs e (sym ez ∙ eb) em en in
       let i : (opening v ++ (spelt 2 (length rs) ++ index v rs)) ++ R ≡ P ++ (index v rs ++ R) = simp append_assoc in
-      let lp : length P ≡ 7 = omega (arith, length-append (opening v) (spelt 2 (length rs)), opening-long v, length-spelt 2 (length rs)) in
-      let w4 : 4 * length rs ≡ wide v * length rs = ap (λ (w : ℕ). w * length rs) (wide-two e) in
-      let lb : 7 + length (index v rs) ≡ base = omega (arith, offsets-long v rs, t.starts, w4) in
+      let lp : length P ≡ 7 = omega (arith, length-append (opening v) (spelt 2 (length rs)), opening_long v, length_spelt 2 (length rs)) in
+      let w4 : 4 * length rs ≡ wide v * length rs = ap (λ (w : ℕ). w * length rs) (wide_two e) in
+      let lb : 7 + length (index v rs) ≡ base = omega (arith, offsets_long v rs, t.starts, w4) in
       let z : n - (base - 7) + 4 * m ≡ length (written v xs) = omega (arith, t.ends, t.starts, t.long) in
       let a : length R < 256 ^ 4 = omega (arith, t.long, room.short) in
       let q = holds_open P (index v rs) R k i (sym en) lp lb (omega (arith, z, room.inside)) e₁ in
       (z, rw z at (filled p v rs xs d _ e few em (all_fit p 0 xs g a) e₂ o q))
 
-pub finish-two : (f : Site) (m n : ℕ) (y : List ℕ) (r : ℕ) (y' : List ℕ) → f.version ≡ 2 → Reindexes f.base m n y r y' → Finishes f m n y r y'
+pub finish_two : (f : Site) (m n : ℕ) (y : List ℕ) (r : ℕ) (y' : List ℕ) → f.version ≡ 2 → Reindexes f.base m n y r y' → Finishes f m n y r y'
 unfolding Reindexes
-finish-two f m n y r y' e w = w f e refl
+finish_two f m n y r y' e w = w f e refl
 
 -- so an edit is done
 module _ {k : List Rule → ℕ} (f : Site) (m n len : ℕ) (d : List ℕ) (p : Product) (v : ℕ) (rs : List Rule) (o : Sits k f d p v rs) {q : Plan (List Rule)} {xs : List Rule} {y y' : List ℕ} (r : ℕ) where
@@ -146,13 +146,13 @@ module _ {k : List Rule → ℕ} (f : Site) (m n len : ℕ) (d : List ℕ) (p : 
   unfolding Finishes
   made_finished fit w g h en l e em el =
       let u = g p v rs xs d (max f.bytes n) o.version o.many o.base em en fit (rw el at w) h in
-      (u.0 ∙ sym el, made-is v f.bytes d u.1 e refl (sym u.0) (omega (arith, u.0, el)) (omega (arith, w.few)) (omega (arith, w.short, u.0, el)))
+      (u.0 ∙ sym el, made_is v f.bytes d u.1 e refl (sym u.0) (omega (arith, u.0, el)) (omega (arith, w.few)) (omega (arith, w.short, u.0, el)))
 
   -- t is what 18, 19 and 20 were judged as
-  pub made-finish : {t : Outcome} {u : ℕ} → Every (Fits p) xs → t ≡ room_for m len (length d) → t ≡ Outcome.Done u → Finishes f m n y r y' → Holds y (lead v rs ++ rules 0 xs) (max f.bytes n) d → n ≡ length (lead v rs ++ rules 0 xs) → n ≤ max f.bytes len → q ≡ become xs → m ≡ length xs → len ≡ length (written v xs)
+  pub made_finish : {t : Outcome} {u : ℕ} → Every (Fits p) xs → t ≡ room_for m len (length d) → t ≡ Outcome.Done u → Finishes f m n y r y' → Holds y (lead v rs ++ rules 0 xs) (max f.bytes n) d → n ≡ length (lead v rs ++ rules 0 xs) → n ≤ max f.bytes len → q ≡ become xs → m ≡ length xs → len ≡ length (written v xs)
       → Does v f.bytes q d t y'
-  made-finish {t} fit e h g i en l j em el =
+  made_finish {t} fit e h g i en l j em el =
       let w = roomy m len (length d) e h in
       let x = made_finished fit w g i en l j em el in
-      let z : t ≡ Outcome.Done r = e ∙ sym (room-is m len (length d) w.few w.short w.inside) ∙ ap Outcome.Done (sym x.0) in
+      let z : t ≡ Outcome.Done r = e ∙ sym (room_is m len (length d) w.few w.short w.inside) ∙ ap Outcome.Done (sym x.0) in
       rw z x.1

@@ -13,23 +13,23 @@ use Rattle.rule.specs.Rule.{Rule}
 use Rattle.deck.specs.Deck.{Deck, read_as}
 use Rattle.given.specs.Given.{is_text, units, given}
 use Rattle.plan.specs.Edit.{become, rename, insert, add_rule, add_word, renamed, new_rule, holding, at_copy, at_second, at_list, edited}
-use Rattle.plan.specs.Laws.Makes.{at-rule, at_last_lem, at-given, if-text, not_full}
+use Rattle.plan.specs.Laws.Makes.{at_rule_lem, at_last_lem, at_given_lem, if_text_lem, not_full}
 
 module _ (p : Product) (rs : List Rule) where
   -- whatever form the name had
-  pub renamed-shortest : (k : ℕ) {r : Rule} {later : List Rule} → drop k rs ≡ r ∷ later → (name : List ℕ) → is_text name ≡ true → edited p (rename k name) rs ≡ become (take k rs ++ (renamed (shortest (units name)) r ∷ later))
+  pub renamed_shortest : (k : ℕ) {r : Rule} {later : List Rule} → drop k rs ≡ r ∷ later → (name : List ℕ) → is_text name ≡ true → edited p (rename k name) rs ≡ become (take k rs ++ (renamed (shortest (units name)) r ∷ later))
   unfolding edited
-  renamed-shortest k e name t = at-rule rs k _ e ∙ if-text name _ t
+  renamed_shortest k e name t = at_rule_lem rs k _ e ∙ if_text_lem name _ t
 
-  pub added-shortest : (name : List ℕ) (f : Fields) (id : ℕ) (s : List ℕ) {x : Element} {n : ℕ} → is_text name ≡ true → given p id s ≡ got x n → edited p (add_rule name f id s) rs ≡ become (rs ++ (new_rule (shortest (units name)) f x ∷ []))
+  pub added_shortest : (name : List ℕ) (f : Fields) (id : ℕ) (s : List ℕ) {x : Element} {n : ℕ} → is_text name ≡ true → given p id s ≡ got x n → edited p (add_rule name f id s) rs ≡ become (rs ++ (new_rule (shortest (units name)) f x ∷ []))
   unfolding edited
-  added-shortest name f id s t e = if-text name _ t ∙ at-given _ e
+  added_shortest name f id s t e = if_text_lem name _ t ∙ at_given_lem _ e
 
   -- behind the words of the list that is the last rule's last element, which keep theirs
-  pub word-shortest : {r : Rule} {later : List Rule} {id : ℕ} {ws : List Text} {others : List Element} → drop (length rs - 1) rs ≡ r ∷ later → drop (length r.elements - 1) r.elements ≡ (id, words ws) ∷ others → length ws < 64 → (word : List ℕ) → is_text word ≡ true
+  pub word_shortest : {r : Rule} {later : List Rule} {id : ℕ} {ws : List Text} {others : List Element} → drop (length rs - 1) rs ≡ r ∷ later → drop (length r.elements - 1) r.elements ≡ (id, words ws) ∷ others → length ws < 64 → (word : List ℕ) → is_text word ≡ true
       → edited p (add_word word) rs ≡ become (take (length rs - 1) rs ++ (holding (take (length r.elements - 1) r.elements ++ ((id, words (ws ++ (shortest (units word) ∷ []))) ∷ [])) r ∷ []))
   unfolding edited at_list
-  word-shortest {ws = ws} e d l word t = at_last_lem rs (length rs - 1) _ e ∙ rw d (not_full (length ws) _ l ∙ if-text word _ t)
+  word_shortest {ws = ws} e d l word t = at_last_lem rs (length rs - 1) _ e ∙ rw d (not_full (length ws) _ l ∙ if_text_lem word _ t)
 
   -- it is the second deck's own rule
   pub inserted_own : (k : ℕ) (second : List ℕ) (qs : Deck) (n j : ℕ) {q : Rule} {after : List Rule} → read_as p second ≡ got qs n → k ≤ length rs → drop j qs.rules ≡ q ∷ after → edited p (insert k second j) rs ≡ become (take k rs ++ (q ∷ drop k rs))

@@ -17,14 +17,14 @@ use Rattle.kind.specs.declared.Edition.TheVariants as Edition
 use Rattle.kind.specs.Kinds.{edition_of}
 use Rattle.rule.specs.Rule.{Rule}
 use Rattle.deck.specs.Deck.{Deck, base_of, read_as, read_by, read_deck}
-use Rattle.deck.specs.Laws.Deck.{deck-small, read_writes-back}
+use Rattle.deck.specs.Laws.Deck.{deck_small, read_writes_back}
 use Rattle.deck.specs.Written.{deck_of, start_of}
 use Rattle.spot.specs.declared.Site.{Site}
 use Rattle.spot.specs.declared.Spot.{Spot}
 use Rattle.spot.specs.declared.Spot.TheVariants as Spot
 use Rattle.spot.specs.Laws.Spot.{spot_says}
 use Rattle.locate.specs.Laws.Located.{site_of, located}
-use Rattle.steps.specs.Laws.Steps.{Sound, sound-read, start-within}
+use Rattle.steps.specs.Laws.Steps.{Sound, sound_read, start_within}
 use Rattle.plan.specs.Edit.{Edit, Plan, refuse, edited, in_version, in_room, plan, plan_by, planned, says, leaves, Edits}
 
 -- "1, 15, 2 to 13 on its deck", then where the rule stands that is asked for
@@ -65,16 +65,16 @@ pub record Within (f : Site) (d : List ℕ) : Type 0 where
   pub short : f.bytes ≤ 60000
   pub few : f.rules ≤ 256
 
-pub sits-within : {k : List Rule → ℕ} (f : Site) (d : List ℕ) {p : Product} {v : ℕ} {rs : List Rule} → Sits k f d p v rs → Within f d
-sits-within {k} f d {p} {v} {rs} o =
-    let w = start-within p v (take f.bytes d) rs (k rs) o.sound in
+pub sits_within : {k : List Rule → ℕ} (f : Site) (d : List ℕ) {p : Product} {v : ℕ} {rs : List Rule} → Sits k f d p v rs → Within f d
+sits_within {k} f d {p} {v} {rs} o =
+    let w = start_within p v (take f.bytes d) rs (k rs) o.sound in
     let l = length-take-le f.bytes d o.within in
     record {
       order = omega (arith, w.0, o.starts, o.ends);
       inside = omega (arith, w.1, o.ends, l);
       room = o.within;
       short = omega (arith, o.sound.short, l);
-      few = omega (arith, o.many, deck-small p (deck_of v rs) o.sound.fit);
+      few = omega (arith, o.many, deck_small p (deck_of v rs) o.sound.fit);
     }
 
 -- ---- as the code finds it
@@ -94,9 +94,9 @@ module _ (k : List Rule → ℕ) (edition n : ℕ) (d : List ℕ) where
     found_beyond e h l = rw (← e, h, lt-leb n (length d) l)
 
   -- a deck that is there is judged by its edition as it is read
-  pub found-is : {c : Spot} → n ≤ length d → c ≡ located k (read_deck edition (take n d)) → c ≡ found k edition n d
+  pub found_is : {c : Spot} → n ≤ length d → c ≡ located k (read_deck edition (take n d)) → c ≡ found k edition n d
   unfolding found pick read_deck read_by
-  found-is {c} l f = f ∙ go (edition_of edition)
+  found_is {c} l f = f ∙ go (edition_of edition)
     where
       go : (o : Edition) → located k (read_by o (take n d)) ≡ found_by o k n d
       go (Edition.Of p) = rw (le-leb n (length d) l)
@@ -122,7 +122,7 @@ module _ (k : List Rule → ℕ) (edition n : ℕ) (d : List ℕ) where
         read p (got a l) o i y z w =
             let bt = bytes_take n d bs in
             let e : f ≡ site_of k l a.version a.rules = cc in
-            let ln : l ≡ n = (read_writes-back p (take n d) a l bt y).ends ∙ length-take-le n d i in
+            let ln : l ≡ n = (read_writes_back p (take n d) a l bt y).ends ∙ length-take-le n d i in
             let fn : f.bytes ≡ n = ap (λ (x : Site). x.bytes) e ∙ ln in
             record {
               product = p;
@@ -131,7 +131,7 @@ module _ (k : List Rule → ℕ) (edition n : ℕ) (d : List ℕ) where
               by = o;
               bytes = fn;
               sits = record {
-                sound = rw fn (sound-read p (take n d) a l bt y);
+                sound = rw fn (sound_read p (take n d) a l bt y);
                 within = rw fn i;
                 version = ap (λ (x : Site). x.version) e;
                 many = ap (λ (x : Site). x.rules) e;
@@ -153,12 +153,12 @@ module _ (k : List Rule → ℕ) (edition n : ℕ) (d : List ℕ) where
         by Edition.Unknown o z = absurd (let u : ◌≡◌ {A = ℕ} 0 1 = cc in omega arith)
 
     pub found_within : {f : Site} → Bytes d → c ≡ found k edition n d → c ≡ Spot.Is f → Within f d
-    found_within {f} bs g h = sits-within f d (ground bs g h).sits
+    found_within {f} bs g h = sits_within f d (ground bs g h).sits
 
   module _ (e : Edit) {c : Spot} where
-    pub edit-no : {r : Outcome} {f : Fault} {q : ℕ} → c ≡ found k edition n d → c ≡ Spot.No f q → r ≡ spot_says c → Edits edition n e d r d
+    pub edit_no : {r : Outcome} {f : Fault} {q : ℕ} → c ≡ found k edition n d → c ≡ Spot.No f q → r ≡ spot_says c → Edits edition n e d r d
     unfolding found planned pick says leaves
-    edit-no {r} {f} {q} g h i = let z = by (edition_of edition) (sym h ∙ g) in (i ∙ ap spot_says h ∙ z.0, z.1)
+    edit_no {r} {f} {q} g h i = let z = by (edition_of edition) (sym h ∙ g) in (i ∙ ap spot_says h ∙ z.0, z.1)
       where
         read : (p : Product) (a : Answer Deck) → Spot.No f q ≡ located k a → (Outcome.No f q ≡ says (plan p (length d) e a)) × (d ≡ leaves n d (plan p (length d) e a))
         read p (got rs m) z = absurd (let u : ◌≡◌ {A = ℕ} 0 1 = cc in omega arith)
@@ -173,14 +173,14 @@ module _ (k : List Rule → ℕ) (edition n : ℕ) (d : List ℕ) where
         by (Edition.Of p) z = stated p (leb n (length d)) z
         by Edition.Unknown z = ((cc), refl)
 
-    pub edit-done : {f : Site} {r : Outcome} {d' : List ℕ} → Bytes d → c ≡ found k edition n d → c ≡ Spot.Is f → Makes edition k f e d r d' → Edits edition n e d r d'
+    pub edit_done : {f : Site} {r : Outcome} {d' : List ℕ} → Bytes d → c ≡ found k edition n d → c ≡ Spot.Is f → Makes edition k f e d r d' → Edits edition n e d r d'
     unfolding Makes
-    edit-done {f} {r} {d'} bs g h w = go (ground bs g h)
+    edit_done {f} {r} {d'} bs g h w = go (ground bs g h)
       where
         go : Ground f → Edits edition n e d r d'
         go o = rw (o.plans e) (rw o.bytes at (w o.product o.version o.rs o.by o.sits))
 
     -- by a product that was told before
-    pub edit-made : {f : Site} {r : Outcome} {d' : List ℕ} {o : Edition} {p : Product} → Bytes d → c ≡ found k edition n d → c ≡ Spot.Is f → o ≡ edition_of edition → o ≡ Edition.Of p → MakesAs p k f e d r d' → Edits edition n e d r d'
+    pub edit_made : {f : Site} {r : Outcome} {d' : List ℕ} {o : Edition} {p : Product} → Bytes d → c ≡ found k edition n d → c ≡ Spot.Is f → o ≡ edition_of edition → o ≡ Edition.Of p → MakesAs p k f e d r d' → Edits edition n e d r d'
     unfolding Makes MakesAs
-    edit-made {p = p} bs g h f i w = edit-done bs g h (λ q v rs x s. let z : q ≡ p = let u : Edition.Of q ≡ Edition.Of p = sym x ∙ sym f ∙ i in cc in rw z (w v rs (rw z at s)))
+    edit_made {p = p} bs g h f i w = edit_done bs g h (λ q v rs x s. let z : q ≡ p = let u : Edition.Of q ≡ Edition.Of p = sym x ∙ sym f ∙ i in cc in rw z (w v rs (rw z at s)))

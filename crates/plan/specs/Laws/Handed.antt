@@ -2,7 +2,7 @@
 use Rattle.std.specs.Prelude.{ℕ, Bool, List, get_or}
 use Rattle.std.specs.Int.{w8, w32}
 use Rattle.std.proofs.Common.{Fits}
-use Rattle.format.specs.Laws.Format.{bytes-all}
+use Rattle.format.specs.Laws.Format.{bytes_all}
 use Rattle.rule.specs.declared.Fields.{Fields}
 use Rattle.plan.specs.Edit.{switch, rename, remove, insert, add_rule, add_element, add_word}
 use Rattle.plan.specs.Handed.{Handed}
@@ -18,30 +18,30 @@ pub record FieldsFit (f : Fields) : Type 0 where
   pub unknown4 : Fits w32 f.unknown4
   pub unknown5 : Fits w32 f.unknown5
 
-pub hand-switch : (k : ℕ) (on : Bool) → Handed (switch k on)
+pub hand_switch : (k : ℕ) (on : Bool) → Handed (switch k on)
 unfolding Handed
-hand-switch k on = tt
+hand_switch k on = tt
 
-pub hand-rename : (k : ℕ) (name : List ℕ) → Slice name → Handed (rename k name)
+pub hand_rename : (k : ℕ) (name : List ℕ) → Slice name → Handed (rename k name)
 unfolding Handed
-hand-rename k name b = bytes-all name b
+hand_rename k name b = bytes_all name b
 
-pub hand-remove : (k : ℕ) → Handed (remove k)
+pub hand_remove : (k : ℕ) → Handed (remove k)
 unfolding Handed
-hand-remove k = tt
+hand_remove k = tt
 
-pub hand-insert : (k : ℕ) (second : List ℕ) (j : ℕ) → Slice second → Handed (insert k second j)
+pub hand_insert : (k : ℕ) (second : List ℕ) (j : ℕ) → Slice second → Handed (insert k second j)
 unfolding Handed
-hand-insert k second j b = bytes-all second b
+hand_insert k second j b = bytes_all second b
 
-pub hand_add-rule : (name : List ℕ) (f : Fields) (id : ℕ) (s : List ℕ) → Slice name → FieldsFit f → Fits w32 id → Slice s → Handed (add_rule name f id s)
+pub hand_add_rule : (name : List ℕ) (f : Fields) (id : ℕ) (s : List ℕ) → Slice name → FieldsFit f → Fits w32 id → Slice s → Handed (add_rule name f id s)
 unfolding Handed
-hand_add-rule name f id s b w i c = (bytes-all name b, ((w.signature.fits, (w.unknown2.fits, (w.unknown3.fits, (w.unknown4.fits, w.unknown5.fits)))), (i.fits, bytes-all s c)))
+hand_add_rule name f id s b w i c = (bytes_all name b, ((w.signature.fits, (w.unknown2.fits, (w.unknown3.fits, (w.unknown4.fits, w.unknown5.fits)))), (i.fits, bytes_all s c)))
 
-pub hand_add-element : (id : ℕ) (s : List ℕ) → Fits w32 id → Slice s → Handed (add_element id s)
+pub hand_add_element : (id : ℕ) (s : List ℕ) → Fits w32 id → Slice s → Handed (add_element id s)
 unfolding Handed
-hand_add-element id s i c = (i.fits, bytes-all s c)
+hand_add_element id s i c = (i.fits, bytes_all s c)
 
-pub hand_add-word : (word : List ℕ) → Slice word → Handed (add_word word)
+pub hand_add_word : (word : List ℕ) → Slice word → Handed (add_word word)
 unfolding Handed
-hand_add-word word b = bytes-all word b
+hand_add_word word b = bytes_all word b

@@ -17,15 +17,15 @@ use Rattle.kind.specs.declared.Product.TheVariants.{Studio}
 use Rattle.element.specs.Element.{Element}
 use Rattle.rule.specs.Rule.{Rule, rule}
 use Rattle.rule.specs.Places.{enabled_at}
-use Rattle.rule.specs.Laws.Parts.{front, back, rule-is}
+use Rattle.rule.specs.Laws.Parts.{front, back, rule_is}
 use Rattle.deck.specs.Written.{deck_of, written, start_of}
-use Rattle.deck.specs.Laws.Written.{written_is, lead, lead-kept, before, before-is, rules, rules_cons}
+use Rattle.deck.specs.Laws.Written.{written_is, lead, lead_kept, before, before_is, rules, rules_cons}
 use Rattle.buffer.specs.Laid.{laid}
 use Rattle.room.specs.Room.{room_for}
-use Rattle.room.specs.Laws.Room.{room-is, roomy}
+use Rattle.room.specs.Laws.Room.{room_is, roomy}
 use Rattle.buffer.specs.Laws.Holds.{Holds}
 use Rattle.spot.specs.declared.Site.{Site}
-use Rattle.steps.specs.Laws.Steps.{Here, here, name_read, name_end, name-end, name-never}
+use Rattle.steps.specs.Laws.Steps.{Here, here, name_read, name_end, name_end_lem, name_never}
 use Rattle.given.specs.Given.{is_text}
 use Rattle.plan.specs.Edit.{Edit, Plan, become, refuse, refuse_given, at_rule, at_last, if_text, unless_full, at_given, if_done, says, leaves}
 use Rattle.plan.specs.Laws.Found.{Makes, Does}
@@ -38,45 +38,45 @@ module _ (n : ℕ) (d : List ℕ) {p : Product} {v : ℕ} {rs : List Rule} where
   here_in {k} h =
       let L = rules (k + 1) h.later ++ drop n d in
       let P = before v rs k in
-      let w : d ≡ P ++ ((rule p k).write h.r ++ L) = sym (take-append-drop n d) ∙ ap (λ (z : List ℕ). z ++ drop n d) h.is ∙ rw (rule-is p k h.r) (simp append_assoc) in
+      let w : d ≡ P ++ ((rule p k).write h.r ++ L) = sym (take-append-drop n d) ∙ ap (λ (z : List ℕ). z ++ drop n d) h.is ∙ rw (rule_is p k h.r) (simp append_assoc) in
       (L, record { fit = h.fits; is = ap (drop (start_of v rs k)) w ∙ drop_at P _ (start_of v rs k) h.starts })
 
-  pub name-ends : {k : ℕ} (h : Here p v (take n d) rs k) → name_end d (start_of v rs k) ≡ enabled_at (start_of v rs k) h.r
-  name-ends {k} h = name-end d (start_of v rs k) p k h.r (here_in h)
+  pub name_ends : {k : ℕ} (h : Here p v (take n d) rs k) → name_end d (start_of v rs k) ≡ enabled_at (start_of v rs k) h.r
+  name_ends {k} h = name_end_lem d (start_of v rs k) p k h.r (here_in h)
 
   -- its name can be read: t is what it was read as
-  pub name-there : {k : ℕ} {t : Read} {c : Fault} {q : ℕ} {B : Type 0} (h : Here p v (take n d) rs k) → t ≡ name_read d (start_of v rs k) → t ≡ Read.No q c → B
-  name-there {k} h f g = name-never d (start_of v rs k) f g p k h.r (here_in h)
+  pub name_there : {k : ℕ} {t : Read} {c : Fault} {q : ℕ} {B : Type 0} (h : Here p v (take n d) rs k) → t ≡ name_read d (start_of v rs k) → t ≡ Read.No q c → B
+  name_there {k} h f g = name_never d (start_of v rs k) f g p k h.r (here_in h)
 
 -- so an edit of rule k is not refused there
 pub makes_unnamed : (edition k : ℕ) (f : Site) (e : Edit) (d : List ℕ) (r : Outcome) (d' : List ℕ) {t : Read} {c : Fault} {q : ℕ} → k < f.rules → t ≡ name_read d f.start → t ≡ Read.No q c → Makes edition (λ rs. k) f e d r d'
 unfolding Makes
-makes_unnamed edition k f e d r d' l g h p v rs x o = name-there f.bytes d (here p v (take f.bytes d) rs k o.sound (omega (arith, o.many))) (g ∙ ap (name_read d) o.starts) h
+makes_unnamed edition k f e d r d' l g h p v rs x o = name_there f.bytes d (here p v (take f.bytes d) rs k o.sound (omega (arith, o.many))) (g ∙ ap (name_read d) o.starts) h
 
 -- ---- the deck of the edited list: rule k becomes x
-pub replaced-long : (rs later : List Rule) (k : ℕ) (r x : Rule) → drop k rs ≡ r ∷ later → length (take k rs ++ (x ∷ later)) ≡ length rs
-replaced-long rs later k r x e =
+pub replaced_long : (rs later : List Rule) (k : ℕ) (r x : Rule) → drop k rs ≡ r ∷ later → length (take k rs ++ (x ∷ later)) ≡ length rs
+replaced_long rs later k r x e =
     omega (arith, length-append (take k rs) (x ∷ later), length-append (take k rs) (drop k rs), ap length e, ap length (take-append-drop k rs))
 
 -- behind what stood before its rules
-pub rules-here : (v : ℕ) (rs later : List Rule) (k : ℕ) (x : Rule) → k < length rs → lead v rs ++ rules 0 (take k rs ++ (x ∷ later)) ≡ before v rs k ++ (front x ++ (back k x.elements ++ rules (k + 1) later))
-rules-here v rs later k x l = rw rules_cons at (before-is v rs k (x ∷ later) (omega arith))
+pub rules_here : (v : ℕ) (rs later : List Rule) (k : ℕ) (x : Rule) → k < length rs → lead v rs ++ rules 0 (take k rs ++ (x ∷ later)) ≡ before v rs k ++ (front x ++ (back k x.elements ++ rules (k + 1) later))
+rules_here v rs later k x l = rw rules_cons at (before_is v rs k (x ∷ later) (omega arith))
 
 -- x being as long, or the last
-pub written-here : (v : ℕ) (rs later : List Rule) (k : ℕ) (r x : Rule) → drop k rs ≡ r ∷ later → k < length rs → (0 < length later → length ((rule Studio k).write x) ≡ length ((rule Studio k).write r))
+pub written_here : (v : ℕ) (rs later : List Rule) (k : ℕ) (r x : Rule) → drop k rs ≡ r ∷ later → k < length rs → (0 < length later → length ((rule Studio k).write x) ≡ length ((rule Studio k).write r))
     → written v (take k rs ++ (x ∷ later)) ≡ before v rs k ++ (front x ++ (back k x.elements ++ rules (k + 1) later))
-written-here v rs later k r x e l h =
+written_here v rs later k r x e l h =
     let xs = take k rs ++ (x ∷ later) in
-    written_is v xs ∙ ap (λ (t : List ℕ). t ++ rules 0 xs) (lead-kept v rs k later r x e (replaced-long rs later k r x e) h) ∙ rules-here v rs later k x l
+    written_is v xs ∙ ap (λ (t : List ℕ). t ++ rules 0 xs) (lead_kept v rs k later r x e (replaced_long rs later k r x e) h) ∙ rules_here v rs later k x l
 
 -- ---- what was judged
-pub at-rule : (rs : List Rule) (k : ℕ) {r : Rule} {later : List Rule} (f : Rule → List Rule → Plan (List Rule)) → drop k rs ≡ r ∷ later → at_rule (drop k rs) f ≡ f r later
+pub at_rule_lem : (rs : List Rule) (k : ℕ) {r : Rule} {later : List Rule} (f : Rule → List Rule → Plan (List Rule)) → drop k rs ≡ r ∷ later → at_rule (drop k rs) f ≡ f r later
 unfolding at_rule
-at-rule rs k f e = rw e
+at_rule_lem rs k f e = rw e
 
-pub no-rule : (rs : List Rule) (k : ℕ) (f : Rule → List Rule → Plan (List Rule)) → length rs ≤ k → at_rule (drop k rs) f ≡ refuse Fault.Absent 0
+pub no_rule : (rs : List Rule) (k : ℕ) (f : Rule → List Rule → Plan (List Rule)) → length rs ≤ k → at_rule (drop k rs) f ≡ refuse Fault.Absent 0
 unfolding at_rule
-no-rule rs k f l = let e : drop k rs ≡ [] = drop_of_length-le rs {i = k} l in rw e
+no_rule rs k f l = let e : drop k rs ≡ [] = drop_of_length-le rs {i = k} l in rw e
 
 pub at_last_lem : (rs : List Rule) (k : ℕ) {r : Rule} {later : List Rule} (f : Rule → Plan (List Rule)) → drop k rs ≡ r ∷ later → at_last (drop k rs) f ≡ f r
 unfolding at_last
@@ -86,9 +86,9 @@ pub no_last : (rs : List Rule) (f : Rule → Plan (List Rule)) → length rs ≡
 unfolding at_last
 no_last rs f l = let e : drop (length rs - 1) rs ≡ [] = drop_of_length-le rs {i = length rs - 1} (omega arith) in rw e
 
-pub if-text : (s : List ℕ) (q : Plan (List Rule)) → is_text s ≡ true → if_text s q ≡ q
+pub if_text_lem : (s : List ℕ) (q : Plan (List Rule)) → is_text s ≡ true → if_text s q ≡ q
 unfolding if_text pick
-if-text s q e = rw e
+if_text_lem s q e = rw e
 
 pub no_text : (s : List ℕ) (q : Plan (List Rule)) → is_text s ≡ false → if_text s q ≡ refuse Fault.Text 0
 unfolding if_text pick
@@ -102,24 +102,24 @@ pub full : (c : ℕ) (q : Plan (List Rule)) → 64 ≤ c → unless_full c q ≡
 unfolding unless_full pick
 full c q l = rw (le-ltb c 64 l)
 
-pub at-given : {a : Answer Element} (f : Element → Plan (List Rule)) {x : Element} {l : ℕ} → a ≡ got x l → at_given a f ≡ f x
+pub at_given_lem : {a : Answer Element} (f : Element → Plan (List Rule)) {x : Element} {l : ℕ} → a ≡ got x l → at_given a f ≡ f x
 unfolding at_given
-at-given f e = rw e
+at_given_lem f e = rw e
 
-pub no-given : {a : Answer Element} (f : Element → Plan (List Rule)) {c : Fault} {q : ℕ} → a ≡ refused c q → at_given a f ≡ refuse_given c q
+pub no_given : {a : Answer Element} (f : Element → Plan (List Rule)) {c : Fault} {q : ℕ} → a ≡ refused c q → at_given a f ≡ refuse_given c q
 unfolding at_given
-no-given f e = rw e
+no_given f e = rw e
 
 -- ---- what a plan comes to
 module _ (v n : ℕ) (d : List ℕ) {q : Plan (List Rule)} where
   -- refused before the edit
-  pub made-no : {c : Fault} {o : ℕ} → q ≡ refuse c o → Does v n q d (Outcome.No c o) d
+  pub made_no : {c : Fault} {o : ℕ} → q ≡ refuse c o → Does v n q d (Outcome.No c o) d
   unfolding says leaves
-  made-no e = rw e (refl, refl)
+  made_no e = rw e (refl, refl)
 
-  pub made-given : {c : Fault} {o : ℕ} → q ≡ refuse_given c o → Does v n q d (Outcome.Given c o) d
+  pub made_given : {c : Fault} {o : ℕ} → q ≡ refuse_given c o → Does v n q d (Outcome.Given c o) d
   unfolding says leaves
-  made-given e = rw e (refl, refl)
+  made_given e = rw e (refl, refl)
 
   -- the edited list
   module _ {rs : List Rule} where
@@ -134,18 +134,18 @@ module _ (v n : ℕ) (d : List ℕ) {q : Plan (List Rule)} where
         go (Outcome.Given c p) h = (refl, refl)
 
     -- done: the buffer y holds the deck of the edited list, len bytes long
-    pub made-is : {y Y : List ℕ} {hi len : ℕ} → Holds y Y hi d → q ≡ become rs → Y ≡ written v rs → length Y ≡ len → hi ≡ max n len → length rs ≤ 256 → len ≤ 60000 → Does v n q d (Outcome.Done len) y
+    pub made_is : {y Y : List ℕ} {hi len : ℕ} → Holds y Y hi d → q ≡ become rs → Y ≡ written v rs → length Y ≡ len → hi ≡ max n len → length rs ≤ 256 → len ≤ 60000 → Does v n q d (Outcome.Done len) y
     unfolding says leaves
-    made-is {y} {Y} {hi} {len} h e w s i l m =
+    made_is {y} {Y} {hi} {len} h e w s i l m =
         let z : length (written v rs) ≡ len = sym (ap length w) ∙ s in
         let u = h.room in
         let g : length (written v rs) ≤ length d = omega (arith, h.short) in
-        rw (e, ← room-is (length rs) (length (written v rs)) (length d) l (omega arith) g)
+        rw (e, ← room_is (length rs) (length (written v rs)) (length d) l (omega arith) g)
         (ap Outcome.Done (sym z), h.is ∙ ap₂ (λ (a : List ℕ) (b : ℕ). laid a b d) w (i ∙ ap (max n) (sym z)))
 
     -- done where there was found to be room
     pub made_in : {o : Outcome} {y Y : List ℕ} {hi w m len : ℕ} → o ≡ room_for m len (length d) → o ≡ Outcome.Done w → Holds y Y hi d → q ≡ become rs → Y ≡ written v rs → length Y ≡ len → hi ≡ max n len → m ≡ length rs → Does v n q d o y
     made_in {o} {m = m} {len = len} r h y e w s i em =
         let j = roomy m len (length d) r h in
-        let z : o ≡ Outcome.Done len = r ∙ sym (room-is m len (length d) j.few j.short j.inside) in
-        rw z (made-is y e w s i (omega (arith, j.few)) j.short)
+        let z : o ≡ Outcome.Done len = r ∙ sym (room_is m len (length d) j.few j.short j.inside) in
+        rw z (made_is y e w s i (omega (arith, j.few)) j.short)

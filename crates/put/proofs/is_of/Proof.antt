@@ -2,14 +2,14 @@ use mathlib.Core.Path.{ap}
 use Prim.Native.Nat.{ℕ}
 use lib.Dec.{eqb}
 use Rattle.put.specs.Plan.{is_of}
-use Rattle.put.specs.Laws.Put.{of-by, of_simple, of_other}
+use Rattle.put.specs.Laws.Put.{of_by, of_simple, of_other}
 use borrow.Author.Rules.{rules}
 use Rattle.put.proofs.is_of.Statement.{statement}
 use Rattle.put.proofs.is_of.Tie as tie
 
 returns : tie.Need-returns
 unfolding is_of
-returns c = of-by _ _ _ _ c.enum_told.given.1 (ap (λ (n : ℕ). eqb n 1) c.before.before.shape_of.ensures)
+returns c = of_by _ _ _ _ c.enum_told.given.1 (ap (λ (n : ℕ). eqb n 1) c.before.before.shape_of.ensures)
 
 returns-2 : tie.Need-returns-2
 returns-2 c = of_simple _ _ _ c.before.before.value.given.1 c.before.before.before.before.shape_of.ensures c.if1.true
@@ -19,15 +19,15 @@ returns-3 c = of_other _ _ _ c.before.before.value.given.1 c.before.before.befor
 
 returns-4 : tie.Need-returns-4
 unfolding is_of
-returns-4 c = of-by _ _ _ _ c.enum-told2.given.1 (ap (λ (n : ℕ). eqb n 3) c.before.before.shape_of.ensures)
+returns-4 c = of_by _ _ _ _ c.enum-told2.given.1 (ap (λ (n : ℕ). eqb n 3) c.before.before.shape_of.ensures)
 
 returns-5 : tie.Need-returns-5
 unfolding is_of
-returns-5 c = of-by _ _ _ _ c.enum-told3.given.1 (ap (λ (n : ℕ). eqb n 4) c.before.before.shape_of.ensures)
+returns-5 c = of_by _ _ _ _ c.enum-told3.given.1 (ap (λ (n : ℕ). eqb n 4) c.before.before.shape_of.ensures)
 
 returns-6 : tie.Need-returns-6
 unfolding is_of
-returns-6 c = of-by _ _ _ _ c.enum-told4.given.1 (ap (λ (n : ℕ). eqb n 5) c.before.before.shape_of.ensures)
+returns-6 c = of_by _ _ _ _ c.enum-told4.given.1 (ap (λ (n : ℕ). eqb n 5) c.before.before.shape_of.ensures)
 
 pub is-of-spec : {M : Type 1} → statement M
 is-of-spec =

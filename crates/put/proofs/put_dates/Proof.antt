@@ -1,5 +1,5 @@
 use mathlib.Core.Path.{sym, ◌∙◌}
-use Rattle.put.specs.Laws.Put.{after_off, before_off, span-put-by}
+use Rattle.put.specs.Laws.Put.{after_off, before_off, span_put_by}
 use borrow.Author.Rules.{rules}
 use Rattle.put.proofs.put_dates.Statement.{statement}
 use Rattle.put.proofs.put_dates.Tie as tie
@@ -8,7 +8,7 @@ put-span-requires : tie.Need-put-span-requires
 put-span-requires c κs = (sym c.before.before.before.before.in_range.ensures ∙ c.before.before.before.if1.true, sym c.before.before.in-range2.ensures ∙ c.before.if2.true)
 
 returns : tie.Need-returns
-returns c = span-put-by _ _ c.before.before.before.before.before.before.before.in_range.ensures c.before.before.before.before.before.before.if1.true c.before.before.before.before.before.in-range2.ensures c.before.before.before.before.if2.true c.before.before.put-span.ensures
+returns c = span_put_by _ _ c.before.before.before.before.before.before.before.in_range.ensures c.before.before.before.before.before.before.if1.true c.before.before.before.before.before.in-range2.ensures c.before.before.before.before.if2.true c.before.before.put-span.ensures
 
 returns-2 : tie.Need-returns-2
 returns-2 c = before_off _ _ c.before.before.before.in_range.ensures c.before.before.if1.true c.before.in-range2.ensures c.if2.false

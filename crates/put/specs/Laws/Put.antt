@@ -41,47 +41,47 @@ span_data v = span (after_of v) (before_of v)
 
 -- ---- the data, put number by number
 
-pub one_zero-put : (xs : List ℕ) {ys : List ℕ} → ys ≡ put_in xs 0 (spelt 8 1) → ys ≡ put_in xs 0 (one_zero.write tt)
+pub one_zero_put : (xs : List ℕ) {ys : List ℕ} → ys ≡ put_in xs 0 (spelt 8 1) → ys ≡ put_in xs 0 (one_zero.write tt)
 unfolding one_zero fixed ◌then◌ seq pair pair_write via judged number spelt
-one_zero-put xs e = e
+one_zero_put xs e = e
 
-pub limit-put : (xs : List ℕ) (at : ℕ) (b : Bool) (n : ℕ) {ys zs ws : List ℕ} → ys ≡ put_in xs at (spelt 4 (bit b)) → zs ≡ put_in ys (at + 4) (spelt 4 0) → ws ≡ put_in zs (at + 8) (spelt 8 n) → at + 16 ≤ length xs
+pub limit_put : (xs : List ℕ) (at : ℕ) (b : Bool) (n : ℕ) {ys zs ws : List ℕ} → ys ≡ put_in xs at (spelt 4 (bit b)) → zs ≡ put_in ys (at + 4) (spelt 4 0) → ws ≡ put_in zs (at + 8) (spelt 8 n) → at + 16 ≤ length xs
     → ws ≡ put_in xs at (limit.write (record { set = b; at = n }))
 unfolding limit flag fixed date ◌then◌ seq pair pair_write via judged number spelt
-limit-put xs at b n e f g h = put_both xs at (spelt 4 (bit b) ++ spelt 4 0) (spelt 8 n) (put_both xs at (spelt 4 (bit b)) (spelt 4 0) e f refl (omega arith)) g refl (omega arith)
+limit_put xs at b n e f g h = put_both xs at (spelt 4 (bit b) ++ spelt 4 0) (spelt 8 n) (put_both xs at (spelt 4 (bit b)) (spelt 4 0) e f refl (omega arith)) g refl (omega arith)
 
 module _ (xs : List ℕ) {ys : List ℕ} (e : ys ≡ put_in xs 0 (one_zero.write tt)) where
-  pub simple-put : ys ≡ put_in xs 0 (simple_data.write plain)
+  pub simple_put : ys ≡ put_in xs 0 (simple_data.write plain)
   unfolding simple_data via
-  simple-put = e
+  simple_put = e
 
-  pub marker-put : {zs : List ℕ} → zs ≡ put_in ys 8 (spelt 4 1) → 12 ≤ length xs → zs ≡ put_in xs 0 (marker_data.write plain)
+  pub marker_put : {zs : List ℕ} → zs ≡ put_in ys 8 (spelt 4 1) → 12 ≤ length xs → zs ≡ put_in xs 0 (marker_data.write plain)
   unfolding marker_data one_zero fixed ◌then◌ seq pair pair_write via judged number spelt
-  marker-put f h = put_both xs 0 _ _ e f refl h
+  marker_put f h = put_both xs 0 _ _ e f refl h
 
-  pub sizes-put : (a b : ℕ) {zs ws : List ℕ} → zs ≡ put_in ys 8 (spelt 4 a) → ws ≡ put_in zs 12 (spelt 4 b) → 16 ≤ length xs → ws ≡ put_in xs 0 (size_data.write (sizes a b))
+  pub sizes_put : (a b : ℕ) {zs ws : List ℕ} → zs ≡ put_in ys 8 (spelt 4 a) → ws ≡ put_in zs 12 (spelt 4 b) → 16 ≤ length xs → ws ≡ put_in xs 0 (size_data.write (sizes a b))
   unfolding size_data one_zero fixed ◌then◌ seq pair pair_write via judged number spelt
-  sizes-put a b f g h = put_both xs 0 _ _ (put_both xs 0 _ _ e f refl (omega arith)) g refl h
+  sizes_put a b f g h = put_both xs 0 _ _ (put_both xs 0 _ _ e f refl (omega arith)) g refl h
 
-  pub span-put : (l m : Limit) {zs ws : List ℕ} → zs ≡ put_in ys 8 (limit.write l) → ws ≡ put_in zs 24 (limit.write m) → 40 ≤ length xs → ws ≡ put_in xs 0 (date_data.write (span l m))
+  pub span_put : (l m : Limit) {zs ws : List ℕ} → zs ≡ put_in ys 8 (limit.write l) → ws ≡ put_in zs 24 (limit.write m) → 40 ≤ length xs → ws ≡ put_in xs 0 (date_data.write (span l m))
   unfolding date_data limit flag date one_zero fixed ◌then◌ seq pair pair_write via judged number spelt
-  span-put l m f g h = put_both xs 0 _ _ (put_both xs 0 _ _ e f refl (omega arith)) g refl h
+  span_put l m f g h = put_both xs 0 _ _ (put_both xs 0 _ _ e f refl (omega arith)) g refl h
 
-pub simple-long : length (simple_data.write plain) ≡ 8
+pub simple_long : length (simple_data.write plain) ≡ 8
 unfolding simple_data one_zero fixed ◌then◌ seq pair pair_write via judged number spelt
-simple-long = refl
+simple_long = refl
 
-pub marker-long : length (marker_data.write plain) ≡ 12
+pub marker_long : length (marker_data.write plain) ≡ 12
 unfolding marker_data one_zero fixed ◌then◌ seq pair pair_write via judged number spelt
-marker-long = refl
+marker_long = refl
 
-pub sizes-long : (a b : ℕ) → length (size_data.write (sizes a b)) ≡ 16
+pub sizes_long : (a b : ℕ) → length (size_data.write (sizes a b)) ≡ 16
 unfolding size_data one_zero fixed ◌then◌ seq pair pair_write via judged number spelt
-sizes-long a b = refl
+sizes_long a b = refl
 
-pub span-long : (l m : Limit) → length (date_data.write (span l m)) ≡ 40
+pub span_long : (l m : Limit) → length (date_data.write (span l m)) ≡ 40
 unfolding date_data limit flag date one_zero fixed ◌then◌ seq pair pair_write via judged number spelt
-span-long l m = refl
+span_long l m = refl
 
 -- ---- a plan that is carried out, and one that is not
 
@@ -90,24 +90,24 @@ module _ (xs bs : List ℕ) {n : ℕ} where
   unfolding if_room put_says put_leaves pick
   no_room e h = let t = lt-leb (length bs) (length xs) (omega arith) in (rw t, rw t)
 
-  pub all-put : {ys : List ℕ} → ys ≡ put_in xs 0 bs → length bs ≡ n → n ≤ length xs → Puts xs (if_room (length xs) bs) (Outcome.Done n) ys
+  pub all_put : {ys : List ℕ} → ys ≡ put_in xs 0 bs → length bs ≡ n → n ≤ length xs → Puts xs (if_room (length xs) bs) (Outcome.Done n) ys
   unfolding if_room put_says put_leaves pick put
-  all-put o e h =
+  all_put o e h =
       let t = le-leb (length bs) (length xs) (omega arith) in
       let w = o ∙ put_in_lem xs 0 bs (omega arith) in
       (rw (t, e), rw t (rw zero-add at w))
 
-pub not-put : (xs : List ℕ) (o : Outcome) → Puts xs (deny o) o xs
+pub not_put : (xs : List ℕ) (o : Outcome) → Puts xs (deny o) o xs
 unfolding put_says put_leaves
-not-put xs o = (refl, refl)
+not_put xs o = (refl, refl)
 
 -- ---- whether a value is of a kind
 
-pub shape-by : (k v : Kind) {n : ℕ} → k ≡ v → n ≡ shape v → n ≡ shape k
-shape-by k v e o = rw e o
+pub shape_by : (k v : Kind) {n : ℕ} → k ≡ v → n ≡ shape v → n ≡ shape k
+shape_by k v e o = rw e o
 
-pub of-by : (k : Kind) (id : ℕ) (v w : Value) {t : Bool} → v ≡ w → t ≡ is_of k id w → t ≡ is_of k id v
-of-by k id v w e o = rw e o
+pub of_by : (k : Kind) (id : ℕ) (v w : Value) {t : Bool} → v ≡ w → t ≡ is_of k id w → t ≡ is_of k id v
+of_by k id v w e o = rw e o
 
 module _ (k : Kind) (id : ℕ) (v : Value) {n j : ℕ} where
   pub of_simple : v ≡ Value.Simple n → j ≡ shape k → j ≡ 2 → eqb n id ≡ is_of k id v
@@ -123,16 +123,16 @@ module _ (k : Kind) (id : ℕ) (v : Value) {n j : ℕ} where
 module _ (xs : List ℕ) (v : Span) {t : Bool} (e : t ≡ accepted (to_bits binary64 v.after)) where
   pub after_off : t ≡ false → Puts xs (plan_data date_data (length xs) (from_span v)) (Outcome.Given Fault.Date 16) xs
   unfolding from_span pick
-  after_off h = rw (← e, h) (not-put xs (Outcome.Given Fault.Date 16))
+  after_off h = rw (← e, h) (not_put xs (Outcome.Given Fault.Date 16))
 
   pub before_off : {u : Bool} → t ≡ true → u ≡ accepted (to_bits binary64 v.before) → u ≡ false → Puts xs (plan_data date_data (length xs) (from_span v)) (Outcome.Given Fault.Date 32) xs
   unfolding from_span pick
-  before_off h f g = rw (← e, h, ← f, g) (not-put xs (Outcome.Given Fault.Date 32))
+  before_off h f g = rw (← e, h, ← f, g) (not_put xs (Outcome.Given Fault.Date 32))
 
-  pub span-put-by : {u : Bool} {r : Outcome} {ys : List ℕ} → t ≡ true → u ≡ accepted (to_bits binary64 v.before) → u ≡ true
+  pub span_put_by : {u : Bool} {r : Outcome} {ys : List ℕ} → t ≡ true → u ≡ accepted (to_bits binary64 v.before) → u ≡ true
       → Puts xs (if_room (length xs) (date_data.write (span_data v))) r ys → Puts xs (plan_data date_data (length xs) (from_span v)) r ys
   unfolding from_span pick
-  span-put-by h f g o = rw (← e, h, ← f, g) o
+  span_put_by h f g o = rw (← e, h, ← f, g) o
 
 -- ---- a value, by its case
 
@@ -159,40 +159,40 @@ shape_of (Value.Words n) = 3
 shape_of (Value.Size a b) = 4
 shape_of (Value.Dates v) = 5
 
-pub of-shape : (k : Kind) (id : ℕ) (v : Value) → is_of k id v ≡ true → shape k ≡ shape_of v
+pub of_shape : (k : Kind) (id : ℕ) (v : Value) → is_of k id v ≡ true → shape k ≡ shape_of v
 unfolding is_of shape_of
-of-shape k id Value.Marker h = eqb-true (shape k) 1 h
-of-shape k id (Value.Simple n) h = eqb-true (shape k) 2 (and_left (eqb (shape k) 2) (eqb n id) h)
-of-shape k id (Value.Words n) h = eqb-true (shape k) 3 h
-of-shape k id (Value.Size a b) h = eqb-true (shape k) 4 h
-of-shape k id (Value.Dates v) h = eqb-true (shape k) 5 h
+of_shape k id Value.Marker h = eqb-true (shape k) 1 h
+of_shape k id (Value.Simple n) h = eqb-true (shape k) 2 (and_left (eqb (shape k) 2) (eqb n id) h)
+of_shape k id (Value.Words n) h = eqb-true (shape k) 3 h
+of_shape k id (Value.Size a b) h = eqb-true (shape k) 4 h
+of_shape k id (Value.Dates v) h = eqb-true (shape k) 5 h
 
 module _ (k : Kind) (id : ℕ) (xs : List ℕ) (v : Value) {t : Bool} (e : t ≡ is_of k id v) where
   pub of_none : not t ≡ true → Puts xs (plan_kind k id v (length xs)) (Outcome.Given Fault.Field 0) xs
   unfolding plan_kind pick
-  of_none h = rw (← e, not-true t h) (not-put xs (Outcome.Given Fault.Field 0))
+  of_none h = rw (← e, not-true t h) (not_put xs (Outcome.Given Fault.Field 0))
 
   of_case : (w : Value) → not t ≡ false → v ≡ w → plan_kind k id v (length xs) ≡ plan_data (format_by (shape_of w)) (length xs) (from_value w)
   unfolding plan_kind pick
   of_case w h f =
       let y : is_of k id v ≡ true = sym e ∙ not-false t h in
-      let z : data_of k ≡ format_by (shape_of v) = shaped k ∙ ap format_by (of-shape k id v y) in
+      let z : data_of k ≡ format_by (shape_of v) = shaped k ∙ ap format_by (of_shape k id v y) in
       rw (y, z, f)
 
-  pub of-put : (w : Value) {r : Outcome} {ys : List ℕ} → not t ≡ false → v ≡ w → Puts xs (plan_data (format_by (shape_of w)) (length xs) (from_value w)) r ys → Puts xs (plan_kind k id v (length xs)) r ys
-  of-put w h f o = rw (of_case w h f) o
+  pub of_put : (w : Value) {r : Outcome} {ys : List ℕ} → not t ≡ false → v ≡ w → Puts xs (plan_data (format_by (shape_of w)) (length xs) (from_value w)) r ys → Puts xs (plan_kind k id v (length xs)) r ys
+  of_put w h f o = rw (of_case w h f) o
 
 -- ---- a value, by edition and identifier
 
 module _ (edition id : ℕ) (xs : List ℕ) (v : Value) {e : Edition} where
-  pub put-none_in : e ≡ edition_of edition → e ≡ Edition.Unknown → Puts xs (putting edition id v (length xs)) (Outcome.No Fault.Edition 0) xs
+  pub put_none_in : e ≡ edition_of edition → e ≡ Edition.Unknown → Puts xs (putting edition id v (length xs)) (Outcome.No Fault.Edition 0) xs
   unfolding putting
-  put-none_in f h = rw (← f, h) (not-put xs (Outcome.No Fault.Edition 0))
+  put_none_in f h = rw (← f, h) (not_put xs (Outcome.No Fault.Edition 0))
 
   module _ {p : Product} {w : Row} where
     pub put_off : {c : Fault} {q : ℕ} {o r : Outcome} → e ≡ edition_of edition → e ≡ Edition.Of p → w ≡ row_of p id → w ≡ Row.No c q → o ≡ (kind_says w).0 → r ≡ in_given o → Puts xs (putting edition id v (length xs)) r xs
     unfolding putting
-    put_off {c} {q} f h g i j l = rw (← f, h, ← g, i) (rw (l, j, i) (not-put xs (Outcome.Given c q)))
+    put_off {c} {q} f h g i j l = rw (← f, h, ← g, i) (rw (l, j, i) (not_put xs (Outcome.Given c q)))
 
     pub put_of : {k : Kind} {r : Outcome} {ys : List ℕ} → e ≡ edition_of edition → e ≡ Edition.Of p → w ≡ row_of p id → w ≡ Row.Is k
         → Puts xs (plan_kind k id v (length xs)) r ys → Puts xs (putting edition id v (length xs)) r ys

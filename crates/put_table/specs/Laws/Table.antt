@@ -7,7 +7,7 @@ use Rattle.std.specs.Float.Ieee.Bits.{nan_bits_is}
 use borrow.Author.Tests.{lt-ltb, le-ltb, le-leb, lt-leb, ne_eqb}
 use Rattle.format.specs.Format.{pick}
 use Rattle.date.specs.Double.{accepted}
-use Rattle.date.proofs.Floats.{bits_back, date-no_nan}
+use Rattle.date.proofs.Floats.{bits_back, date_no_nan}
 use Rattle.kind.specs.declared.Kind.{Kind}
 use Rattle.kind.specs.declared.Edition.{Edition}
 use Rattle.kind.specs.declared.Edition.TheVariants as Edition
@@ -26,27 +26,27 @@ use Rattle.put_table.specs.Table.{no_value, by_simple, by_size, by_dates, by_cas
 unfoldable pub Stands : ℕ → Float → Type 0
 Stands bits x = (accepted (to_bits binary64 x) ≡ accepted bits) × (accepted bits ≡ true → x ≡ of_bits binary64 bits)
 
-nan-no-date : (x : Float) → is_nan x ≡ true → accepted (to_bits binary64 x) ≡ false
+nan_no_date : (x : Float) → is_nan x ≡ true → accepted (to_bits binary64 x) ≡ false
 unfolding is_nan to_bits
-nan-no-date nan e = refl
-nan-no-date (inf s) e = absurd (let z : ◌≡◌ {A = ℕ} 0 1 = cc in omega arith)
-nan-no-date (fin s m n) e = absurd (let z : ◌≡◌ {A = ℕ} 0 1 = cc in omega arith)
+nan_no_date nan e = refl
+nan_no_date (inf s) e = absurd (let z : ◌≡◌ {A = ℕ} 0 1 = cc in omega arith)
+nan_no_date (fin s m n) e = absurd (let z : ◌≡◌ {A = ℕ} 0 1 = cc in omega arith)
 
-bits-dated : (bits : ℕ) → bits < 2 ^ 64 → accepted (to_bits binary64 (of_bits binary64 bits)) ≡ accepted bits
-bits-dated bits h = go (nan_bits binary64 bits) refl (accepted bits) refl
+bits_dated : (bits : ℕ) → bits < 2 ^ 64 → accepted (to_bits binary64 (of_bits binary64 bits)) ≡ accepted bits
+bits_dated bits h = go (nan_bits binary64 bits) refl (accepted bits) refl
   where
     go : (n : Bool) → nan_bits binary64 bits ≡ n → (a : Bool) → accepted bits ≡ a → accepted (to_bits binary64 (of_bits binary64 bits)) ≡ a
     go false e a f = ap accepted (bits_back bits h (rw e tt)) ∙ f
-    go true e false f = nan-no-date (of_bits binary64 bits) (sym (nan_bits_is binary64 bits) ∙ e)
-    go true e true f = absurd (let w : T (not (nan_bits binary64 bits)) = date-no_nan bits f in rw e at w)
+    go true e false f = nan_no_date (of_bits binary64 bits) (sym (nan_bits_is binary64 bits) ∙ e)
+    go true e true f = absurd (let w : T (not (nan_bits binary64 bits)) = date_no_nan bits f in rw e at w)
 
 pub stands_for : (bits : ℕ) {x : Float} → bits < 2 ^ 64 → x ≡ of_bits binary64 bits → Stands bits x
 unfolding Stands
-stands_for bits h e = (ap (λ (y : Float). accepted (to_bits binary64 y)) e ∙ bits-dated bits h, λ f. e)
+stands_for bits h e = (ap (λ (y : Float). accepted (to_bits binary64 y)) e ∙ bits_dated bits h, λ f. e)
 
 pub stands_off : (bits n : ℕ) → n < 2 ^ 64 → accepted n ≡ false → accepted bits ≡ false → Stands bits (of_bits binary64 n)
 unfolding Stands
-stands_off bits n h e f = (bits-dated n h ∙ e ∙ sym f, λ g. absurd (let z : ◌≡◌ {A = ℕ} 0 1 = (let w = sym f ∙ g in cc) in omega arith))
+stands_off bits n h e f = (bits_dated n h ∙ e ∙ sym f, λ g. absurd (let z : ◌≡◌ {A = ℕ} 0 1 = (let w = sym f ∙ g in cc) in omega arith))
 
 -- ---- values that go back alike, as data of whatever kind
 
@@ -60,28 +60,28 @@ alike e k id room = ap (λ (u : Value). plan_kind k id u room) e
 abbrev span : Bool → Bool → Float → Float → Span
 span f g x y = record { starts = f; ends = g; after = x; before = y }
 
-spans-alike : (f g : Bool) (a b : ℕ) (x y : Float) → a < 2 ^ 64 → b < 2 ^ 64 → Stands a x → Stands b y → from_span (span f g x y) ≡ from_span (span f g (of_bits binary64 a) (of_bits binary64 b))
+spans_alike : (f g : Bool) (a b : ℕ) (x y : Float) → a < 2 ^ 64 → b < 2 ^ 64 → Stands a x → Stands b y → from_span (span f g x y) ≡ from_span (span f g (of_bits binary64 a) (of_bits binary64 b))
 unfolding from_span Stands pick
-spans-alike f g a b x y ha hb sa sb = go (accepted a) refl (accepted b) refl
+spans_alike f g a b x y ha hb sa sb = go (accepted a) refl (accepted b) refl
   where
     go : (p : Bool) → accepted a ≡ p → (q : Bool) → accepted b ≡ q → from_span (span f g x y) ≡ from_span (span f g (of_bits binary64 a) (of_bits binary64 b))
     go true e true h = rw (sa.1 e, sb.1 h)
-    go true e false h = let w = sb.0 ∙ h in let z = bits-dated b hb ∙ h in rw (sa.1 e, w, z)
-    go false e q h = let w = sa.0 ∙ e in let z = bits-dated a ha ∙ e in rw (w, z)
+    go true e false h = let w = sb.0 ∙ h in let z = bits_dated b hb ∙ h in rw (sa.1 e, w, z)
+    go false e q h = let w = sa.0 ∙ e in let z = bits_dated a ha ∙ e in rw (w, z)
 
-pub dates-alike : (f g : Bool) (a b : ℕ) (x y : Float) → a < 2 ^ 64 → b < 2 ^ 64 → Stands a x → Stands b y → Alike (Value.Dates (span f g x y)) (Value.Dates (span f g (of_bits binary64 a) (of_bits binary64 b)))
+pub dates_alike : (f g : Bool) (a b : ℕ) (x y : Float) → a < 2 ^ 64 → b < 2 ^ 64 → Stands a x → Stands b y → Alike (Value.Dates (span f g x y)) (Value.Dates (span f g (of_bits binary64 a) (of_bits binary64 b)))
 unfolding Alike plan_kind is_of
-dates-alike f g a b x y ha hb sa sb k id room = rw (spans-alike f g a b x y ha hb sa sb)
+dates_alike f g a b x y ha hb sa sb k id room = rw (spans_alike f g a b x y ha hb sa sb)
 
 -- ---- case by case
 
-pub simple-is : (id : ℕ) → id < 2 ^ 32 → Value.Simple id ≡ by_simple id
+pub simple_is : (id : ℕ) → id < 2 ^ 32 → Value.Simple id ≡ by_simple id
 unfolding by_simple pick
-simple-is id h = rw (lt-ltb id (2 ^ 32) h)
+simple_is id h = rw (lt-ltb id (2 ^ 32) h)
 
-pub simple-none : (id : ℕ) → 2 ^ 32 ≤ id → no_value ≡ by_simple id
+pub simple_none : (id : ℕ) → 2 ^ 32 ≤ id → no_value ≡ by_simple id
 unfolding by_simple pick
-simple-none id h = rw (le-ltb id (2 ^ 32) h)
+simple_none id h = rw (le-ltb id (2 ^ 32) h)
 
 module _ (a b : ℕ) where
   pub size_is : a < 2 ^ 32 → b < 2 ^ 32 → Value.Size a b ≡ by_size a b
@@ -92,28 +92,28 @@ module _ (a b : ℕ) where
   unfolding by_size pick
   size_none h = rw (le-ltb a (2 ^ 32) h)
 
-  pub size-none_2 : a < 2 ^ 32 → 2 ^ 32 ≤ b → no_value ≡ by_size a b
+  pub size_none_2 : a < 2 ^ 32 → 2 ^ 32 ≤ b → no_value ≡ by_size a b
   unfolding by_size pick
-  size-none_2 h l = rw (lt-ltb a (2 ^ 32) h, le-ltb b (2 ^ 32) l)
+  size_none_2 h l = rw (lt-ltb a (2 ^ 32) h, le-ltb b (2 ^ 32) l)
 
 module _ (f g a b : ℕ) where
-  pub dates-are : (x y : Float) → a < 2 ^ 64 → b < 2 ^ 64 → Stands a x → Stands b y → f ≤ 1 → g ≤ 1 → Alike (Value.Dates (span (eqb f 1) (eqb g 1) x y)) (by_dates f g a b)
+  pub dates_are : (x y : Float) → a < 2 ^ 64 → b < 2 ^ 64 → Stands a x → Stands b y → f ≤ 1 → g ≤ 1 → Alike (Value.Dates (span (eqb f 1) (eqb g 1) x y)) (by_dates f g a b)
   unfolding by_dates pick
-  dates-are x y ha hb sa sb h l = rw (le-leb f 1 h, le-leb g 1 l) (dates-alike (eqb f 1) (eqb g 1) a b x y ha hb sa sb)
+  dates_are x y ha hb sa sb h l = rw (le-leb f 1 h, le-leb g 1 l) (dates_alike (eqb f 1) (eqb g 1) a b x y ha hb sa sb)
 
-  pub dates-none : 1 < f → Alike no_value (by_dates f g a b)
+  pub dates_none : 1 < f → Alike no_value (by_dates f g a b)
   unfolding by_dates pick
-  dates-none h = alike (rw (lt-leb f 1 h))
+  dates_none h = alike (rw (lt-leb f 1 h))
 
-  pub dates-none_2 : f ≤ 1 → 1 < g → Alike no_value (by_dates f g a b)
+  pub dates_none_2 : f ≤ 1 → 1 < g → Alike no_value (by_dates f g a b)
   unfolding by_dates pick
-  dates-none_2 h l = alike (rw (le-leb f 1 h, lt-leb g 1 l))
+  dates_none_2 h l = alike (rw (le-leb f 1 h, lt-leb g 1 l))
 
 -- the case that a table says
 module _ (t : List ℕ) where
-  pub from-short : length t < 5 → Alike no_value (value_from t)
+  pub from_short : length t < 5 → Alike no_value (value_from t)
   unfolding value_from pick
-  from-short h = alike (rw (lt-leb 5 (length t) h))
+  from_short h = alike (rw (lt-leb 5 (length t) h))
 
   module _ (h : 5 ≤ length t) where
     from_case : {n : ℕ} → get_or t 0 0 ≡ n → by_case n (get_or t 1 0) (get_or t 2 0) (get_or t 3 0) (get_or t 4 0) ≡ value_from t
@@ -128,22 +128,22 @@ module _ (t : List ℕ) where
     unfolding by_case pick
     from_simple e f = alike (f ∙ from_case e)
 
-    pub from-size : {v : Value} → get_or t 0 0 ≡ 2 → v ≡ by_size (get_or t 1 0) (get_or t 2 0) → Alike v (value_from t)
+    pub from_size : {v : Value} → get_or t 0 0 ≡ 2 → v ≡ by_size (get_or t 1 0) (get_or t 2 0) → Alike v (value_from t)
     unfolding by_case pick
-    from-size e f = alike (f ∙ from_case e)
+    from_size e f = alike (f ∙ from_case e)
 
     pub from_dates : (v : Value) → get_or t 0 0 ≡ 3 → Alike v (by_dates (get_or t 1 0) (get_or t 2 0) (get_or t 3 0) (get_or t 4 0)) → Alike v (value_from t)
     unfolding by_case pick
     from_dates v e f = rw (from_case e) at f
 
-    pub from-other : (get_or t 0 0 ≡ 0 → ⊥) → (get_or t 0 0 ≡ 1 → ⊥) → (get_or t 0 0 ≡ 2 → ⊥) → (get_or t 0 0 ≡ 3 → ⊥) → Alike no_value (value_from t)
+    pub from_other : (get_or t 0 0 ≡ 0 → ⊥) → (get_or t 0 0 ≡ 1 → ⊥) → (get_or t 0 0 ≡ 2 → ⊥) → (get_or t 0 0 ≡ 3 → ⊥) → Alike no_value (value_from t)
     unfolding by_case value_from pick
-    from-other a b c d = alike (rw (le-leb 5 (length t) h, ne_eqb (get_or t 0 0) 0 a, ne_eqb (get_or t 0 0) 1 b, ne_eqb (get_or t 0 0) 2 c, ne_eqb (get_or t 0 0) 3 d))
+    from_other a b c d = alike (rw (le-leb 5 (length t) h, ne_eqb (get_or t 0 0) 0 a, ne_eqb (get_or t 0 0) 1 b, ne_eqb (get_or t 0 0) 2 c, ne_eqb (get_or t 0 0) 3 d))
 
 -- what goes back alike goes back alike in an edition
-pub putting-alike : (edition id room : ℕ) (v w : Value) → Alike v w → putting edition id v room ≡ putting edition id w room
+pub putting_alike : (edition id room : ℕ) (v w : Value) → Alike v w → putting edition id v room ≡ putting edition id w room
 unfolding putting Alike
-putting-alike edition id room v w f = by (edition_of edition)
+putting_alike edition id room v w f = by (edition_of edition)
   where
     row : (r : Row) → plan_row r id v room ≡ plan_row r id w room
     row (Row.Is k) = f k id room

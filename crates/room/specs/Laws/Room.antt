@@ -14,21 +14,21 @@ use Rattle.room.specs.Room.{room_for}
 
 module _ (rules size cap : ℕ) where
   -- ---- as the code judges it
-  pub room-rules : 256 < rules → Outcome.No Fault.Rules 0 ≡ room_for rules size cap
+  pub room_rules : 256 < rules → Outcome.No Fault.Rules 0 ≡ room_for rules size cap
   unfolding room_for pick
-  room-rules l = rw (lt-leb rules 256 l)
+  room_rules l = rw (lt-leb rules 256 l)
 
   pub room_large : rules ≤ 256 → 60000 < size → Outcome.No Fault.Large 0 ≡ room_for rules size cap
   unfolding room_for pick
   room_large l m = rw (le-leb rules 256 l, lt-leb size 60000 m)
 
-  pub room-short : rules ≤ 256 → size ≤ 60000 → cap < size → Outcome.No Fault.Room 0 ≡ room_for rules size cap
+  pub room_short : rules ≤ 256 → size ≤ 60000 → cap < size → Outcome.No Fault.Room 0 ≡ room_for rules size cap
   unfolding room_for pick
-  room-short l m n = rw (le-leb rules 256 l, le-leb size 60000 m, lt-leb size cap n)
+  room_short l m n = rw (le-leb rules 256 l, le-leb size 60000 m, lt-leb size cap n)
 
-  pub room-is : rules ≤ 256 → size ≤ 60000 → size ≤ cap → Outcome.Done size ≡ room_for rules size cap
+  pub room_is : rules ≤ 256 → size ≤ 60000 → size ≤ cap → Outcome.Done size ≡ room_for rules size cap
   unfolding room_for pick
-  room-is l m n = rw (le-leb rules 256 l, le-leb size 60000 m, le-leb size cap n)
+  room_is l m n = rw (le-leb rules 256 l, le-leb size 60000 m, le-leb size cap n)
 
   -- ---- what is known then: all three bounds where there is room, else which one is passed
   pub record Roomy : Type 0 where
@@ -36,10 +36,10 @@ module _ (rules size cap : ℕ) where
     pub short : size ≤ 60000
     pub inside : size ≤ cap
 
-  pub room-judged : (P : Outcome → Type 0) → (Roomy → P (Outcome.Done size)) → (256 < rules → P (Outcome.No Fault.Rules 0)) → (60000 < size → P (Outcome.No Fault.Large 0)) → (cap < size → P (Outcome.No Fault.Room 0))
+  pub room_judged : (P : Outcome → Type 0) → (Roomy → P (Outcome.Done size)) → (256 < rules → P (Outcome.No Fault.Rules 0)) → (60000 < size → P (Outcome.No Fault.Large 0)) → (cap < size → P (Outcome.No Fault.Room 0))
       → P (room_for rules size cap)
   unfolding room_for pick
-  room-judged P done many large full = go (leb rules 256) (leb size 60000) (leb size cap) refl refl refl
+  room_judged P done many large full = go (leb rules 256) (leb size 60000) (leb size cap) refl refl refl
     where
       go : (a b c : Bool) → leb rules 256 ≡ a → leb size 60000 ≡ b → leb size cap ≡ c
           → P (pick a (pick b (pick c (Outcome.Done size) (Outcome.No Fault.Room 0)) (Outcome.No Fault.Large 0)) (Outcome.No Fault.Rules 0))
@@ -50,7 +50,7 @@ module _ (rules size cap : ℕ) where
 
   -- o is what was judged
   pub roomy : {o : Outcome} {v : ℕ} → o ≡ room_for rules size cap → o ≡ Outcome.Done v → Roomy
-  roomy {o} {v} e h = room-judged (λ r. r ≡ Outcome.Done v → Roomy) (λ w z. w) (λ l. no) (λ l. no) (λ l. no) (sym e ∙ h)
+  roomy {o} {v} e h = room_judged (λ r. r ≡ Outcome.Done v → Roomy) (λ w z. w) (λ l. no) (λ l. no) (λ l. no) (sym e ∙ h)
     where
       no : {c : Fault} → Outcome.No c 0 ≡ Outcome.Done v → Roomy
       no z = absurd (let u : ◌≡◌ {A = ℕ} 0 1 = cc in omega arith)

@@ -53,31 +53,31 @@ line_of n = digits_from (16 * n) 16
 
 -- ---- a digit of a line gives the row back
 
-digit-small : (r : Row) → digit_of r < 16
+digit_small : (r : Row) → digit_of r < 16
 unfolding digit_of
-digit-small (Is Marker) = omega arith
-digit-small (Is (Simple Condition)) = omega arith
-digit-small (Is (Simple Action)) = omega arith
-digit-small (Is (Simple Exception)) = omega arith
-digit-small (Is WordList) = omega arith
-digit-small (Is (Size Condition)) = omega arith
-digit-small (Is (Size Action)) = omega arith
-digit-small (Is (Size Exception)) = omega arith
-digit-small (Is (Dates Condition)) = omega arith
-digit-small (Is (Dates Action)) = omega arith
-digit-small (Is (Dates Exception)) = omega arith
-digit-small (No c q) = omega arith
+digit_small (Is Marker) = omega arith
+digit_small (Is (Simple Condition)) = omega arith
+digit_small (Is (Simple Action)) = omega arith
+digit_small (Is (Simple Exception)) = omega arith
+digit_small (Is WordList) = omega arith
+digit_small (Is (Size Condition)) = omega arith
+digit_small (Is (Size Action)) = omega arith
+digit_small (Is (Size Exception)) = omega arith
+digit_small (Is (Dates Condition)) = omega arith
+digit_small (Is (Dates Action)) = omega arith
+digit_small (Is (Dates Exception)) = omega arith
+digit_small (No c q) = omega arith
 
 digit_in : (i n k : ℕ) → k < n → digits_from i n / 2 ^ (4 * k) % 16 ≡ digit_of (row_in kinds (i + k))
 unfolding digits_from
 digit_in i zero k h = absurd (omega arith)
-digit_in i (suc n) zero h = rw add-zero (omega (arith, digit-small (row_in kinds i)))
+digit_in i (suc n) zero h = rw add-zero (omega (arith, digit_small (row_in kinds i)))
 digit_in i (suc n) (suc k) h =
     let d = digit_of (row_in kinds i) in
     let r = digits_from (suc i) n in
     let z : suc i + k ≡ i + suc k = omega arith in
     let e : 4 * suc k ≡ 4 + 4 * k = omega arith in
-    let q : (d + 16 * r) / 2 ^ 4 ≡ r = omega (arith, digit-small (row_in kinds i)) in
+    let q : (d + 16 * r) / 2 ^ 4 ≡ r = omega (arith, digit_small (row_in kinds i)) in
     let t : (d + 16 * r) / 2 ^ (4 + 4 * k) ≡ r / 2 ^ (4 * k) = sym (shr-shr (d + 16 * r) 4 (4 * k)) ∙ ap (λ (x : ℕ). x / 2 ^ (4 * k)) q in
     rw (e, t, ← z) (digit_in (suc i) n k (omega arith))
 
@@ -95,13 +95,13 @@ kept : Kept kinds
 unfolding row_at digit_of lacks_at pick Kept
 kept = (refl, (refl, (refl, (refl, (refl, (refl, (refl, (refl, (refl, (refl, (refl, (refl, (refl, (refl, (refl, (refl, (refl, (refl, tt))))))))))))))))))
 
-none-back : row_at (digit_of (No Fault.Unknown 0)) ≡ No Fault.Unknown 0
+none_back : row_at (digit_of (No Fault.Unknown 0)) ≡ No Fault.Unknown 0
 unfolding row_at digit_of pick
-none-back = refl
+none_back = refl
 
 row_back : (rows : List (Kind × List ℕ)) (id : ℕ) → Kept rows → row_at (digit_of (row_in rows id)) ≡ row_in rows id
 unfolding row_in pick Kept
-row_back [] id h = none-back
+row_back [] id h = none_back
 row_back ((k, ids) ∷ rows) id h = go (has ids id) (row_back rows id h.1.1)
   where
     go : (b : Bool) → row_at (digit_of (row_in rows id)) ≡ row_in rows id → row_at (digit_of (pick b (Is k) (row_in rows id))) ≡ pick b (Is k) (row_in rows id)
@@ -109,46 +109,46 @@ row_back ((k, ids) ∷ rows) id h = go (has ids id) (row_back rows id h.1.1)
     go false e = e
 
 -- a row that a product lacks is foreign
-one-offered : (p : Product) (k : Kind) → lacks_at Desk (digit_of (Is k)) ≡ not (in_desk k) → offered p (Is k) ≡ pick (lacks_at p (digit_of (Is k))) (No Fault.Foreign 0) (Is k)
+one_offered : (p : Product) (k : Kind) → lacks_at Desk (digit_of (Is k)) ≡ not (in_desk k) → offered p (Is k) ≡ pick (lacks_at p (digit_of (Is k))) (No Fault.Foreign 0) (Is k)
 unfolding offered lacks_at pick
-one-offered Studio k h = refl
-one-offered Desk k h = rw h (go (in_desk k))
+one_offered Studio k h = refl
+one_offered Desk k h = rw h (go (in_desk k))
   where
     go : (b : Bool) → pick b (Is k) (No Fault.Foreign 0) ≡ pick (not b) (No Fault.Foreign 0) (Is k)
     go true = refl
     go false = refl
 
-none-offered : (p : Product) → offered p (No Fault.Unknown 0) ≡ pick (lacks_at p (digit_of (No Fault.Unknown 0))) (No Fault.Foreign 0) (No Fault.Unknown 0)
+none_offered : (p : Product) → offered p (No Fault.Unknown 0) ≡ pick (lacks_at p (digit_of (No Fault.Unknown 0))) (No Fault.Foreign 0) (No Fault.Unknown 0)
 unfolding offered lacks_at digit_of pick
-none-offered Desk = refl
-none-offered Studio = refl
+none_offered Desk = refl
+none_offered Studio = refl
 
-offered-by : (p : Product) (rows : List (Kind × List ℕ)) (id : ℕ) → Kept rows → offered p (row_in rows id) ≡ pick (lacks_at p (digit_of (row_in rows id))) (No Fault.Foreign 0) (row_in rows id)
+offered_by : (p : Product) (rows : List (Kind × List ℕ)) (id : ℕ) → Kept rows → offered p (row_in rows id) ≡ pick (lacks_at p (digit_of (row_in rows id))) (No Fault.Foreign 0) (row_in rows id)
 unfolding row_in pick Kept
-offered-by p [] id h = none-offered p
-offered-by p ((k, ids) ∷ rows) id h = go (has ids id) (offered-by p rows id h.1.1)
+offered_by p [] id h = none_offered p
+offered_by p ((k, ids) ∷ rows) id h = go (has ids id) (offered_by p rows id h.1.1)
   where
     go : (b : Bool) → offered p (row_in rows id) ≡ pick (lacks_at p (digit_of (row_in rows id))) (No Fault.Foreign 0) (row_in rows id)
         → offered p (pick b (Is k) (row_in rows id)) ≡ pick (lacks_at p (digit_of (pick b (Is k) (row_in rows id)))) (No Fault.Foreign 0) (pick b (Is k) (row_in rows id))
-    go true e = one-offered p k h.1.0
+    go true e = one_offered p k h.1.0
     go false e = e
 
 -- ---- as the code finds it
 
-pub digit-is : (id : ℕ) {l : ℕ} → l ≡ line_of (id / 16) → l / 2 ^ (4 * (id % 16)) % 16 ≡ digit_of (row_in kinds id)
+pub digit_is : (id : ℕ) {l : ℕ} → l ≡ line_of (id / 16) → l / 2 ^ (4 * (id % 16)) % 16 ≡ digit_of (row_in kinds id)
 unfolding line_of
-digit-is id e =
+digit_is id e =
     let z : 16 * (id / 16) + id % 16 ≡ id = omega arith in
     rw e (rw z at (digit_in (16 * (id / 16)) 16 (id % 16) (omega arith)))
 
 module _ (p : Product) (id : ℕ) {d : ℕ} {b : Bool} where
-  pub row-foreign : d ≡ digit_of (row_in kinds id) → b ≡ lacks_at p d → b ≡ true → No Fault.Foreign 0 ≡ row_of p id
+  pub row_foreign : d ≡ digit_of (row_in kinds id) → b ≡ lacks_at p d → b ≡ true → No Fault.Foreign 0 ≡ row_of p id
   unfolding row_of pick
-  row-foreign e f t = rw (offered-by p kinds id kept, ← e, ← f, t)
+  row_foreign e f t = rw (offered_by p kinds id kept, ← e, ← f, t)
 
   pub row_has : {r : Row} → d ≡ digit_of (row_in kinds id) → b ≡ lacks_at p d → b ≡ false → r ≡ row_at d → r ≡ row_of p id
   unfolding row_of pick
-  row_has e f t h = rw (offered-by p kinds id kept, ← e, ← f, t) (h ∙ ap row_at e ∙ row_back kinds id kept)
+  row_has e f t h = rw (offered_by p kinds id kept, ← e, ← f, t) (h ∙ ap row_at e ∙ row_back kinds id kept)
 
 -- a line without an identifier
 unfoldable pub Off : ℕ → List ℕ → Type 0
@@ -159,21 +159,21 @@ unfoldable pub AllOff : ℕ → List (Kind × List ℕ) → Type 0
 AllOff n [] = Unit {0}
 AllOff n ((k, ids) ∷ rows) = Off n ids × AllOff n rows
 
-off-has : (n id : ℕ) (ids : List ℕ) → id / 16 ≡ n → Off n ids → has ids id ≡ false
+off_has : (n id : ℕ) (ids : List ℕ) → id / 16 ≡ n → Off n ids → has ids id ≡ false
 unfolding has Off
-off-has n id [] e o = refl
-off-has n id (x ∷ xs) e o = rw (ne_eqb id x (λ z. o.0 (sym e ∙ ap (λ (m : ℕ). m / 16) z))) (off-has n id xs e o.1)
+off_has n id [] e o = refl
+off_has n id (x ∷ xs) e o = rw (ne_eqb id x (λ z. o.0 (sym e ∙ ap (λ (m : ℕ). m / 16) z))) (off_has n id xs e o.1)
 
-off-row : (n id : ℕ) (rows : List (Kind × List ℕ)) → id / 16 ≡ n → AllOff n rows → row_in rows id ≡ No Fault.Unknown 0
+off_row : (n id : ℕ) (rows : List (Kind × List ℕ)) → id / 16 ≡ n → AllOff n rows → row_in rows id ≡ No Fault.Unknown 0
 unfolding row_in AllOff pick
-off-row n id [] e o = refl
-off-row n id ((k, ids) ∷ rows) e o = rw (off-has n id ids e o.0) (off-row n id rows e o.1)
+off_row n id [] e o = refl
+off_row n id ((k, ids) ∷ rows) e o = rw (off_has n id ids e o.0) (off_row n id rows e o.1)
 
-off-digits : (n i k : ℕ) → AllOff n kinds → 16 * n ≤ i → i + k ≤ 16 * n + 16 → digits_from i k ≡ 0
+off_digits : (n i k : ℕ) → AllOff n kinds → 16 * n ≤ i → i + k ≤ 16 * n + 16 → digits_from i k ≡ 0
 unfolding digits_from digit_of
-off-digits n i zero o h l = refl
-off-digits n i (suc k) o h l = rw (off-row n i kinds (omega arith) o, off-digits n (suc i) k o (omega arith) (omega arith))
+off_digits n i zero o h l = refl
+off_digits n i (suc k) o h l = rw (off_row n i kinds (omega arith) o, off_digits n (suc i) k o (omega arith) (omega arith))
 
 pub off_line : (n : ℕ) → AllOff n kinds → 0 ≡ line_of n
 unfolding line_of
-off_line n o = sym (off-digits n (16 * n) 16 o (omega arith) (omega arith))
+off_line n o = sym (off_digits n (16 * n) 16 o (omega arith) (omega arith))

@@ -1,6 +1,6 @@
 use Rattle.format.specs.Laws.Seen.{reading}
 use Rattle.rule.specs.Rule.{class_head}
-use Rattle.rule.specs.Laws.Rule.{class-is}
+use Rattle.rule.specs.Laws.Rule.{class_is}
 use borrow.Author.Rules.{rules}
 use Rattle.rule.proofs.class_at.Statement.{statement}
 use Rattle.rule.proofs.class_at.Tie as tie
@@ -15,7 +15,7 @@ returns-2 c = search reading
 
 returns-3 : tie.Need-returns-3
 unfolding class_head
-returns-3 c = search (reading, class-is)
+returns-3 c = search (reading, class_is)
 
 pub class-at-spec : {M : Type 1} → statement M
 class-at-spec =

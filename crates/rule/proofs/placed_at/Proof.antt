@@ -1,4 +1,4 @@
-use Rattle.rule.specs.Laws.Rule.{lead_stop, lead-go}
+use Rattle.rule.specs.Laws.Rule.{lead_stop, lead_go}
 use borrow.Author.Rules.{rules}
 use Rattle.rule.proofs.placed_at.Statement.{statement}
 use Rattle.rule.proofs.placed_at.Tie as tie
@@ -19,7 +19,7 @@ element-at-requires : tie.Need-element-at-requires
 element-at-requires c κs = search rules
 
 returns-2 : tie.Need-returns-2
-returns-2 c = search (rules, lead-go)
+returns-2 c = search (rules, lead_go)
 
 pub placed-at-spec : {M : Type 1} → statement M
 placed-at-spec =

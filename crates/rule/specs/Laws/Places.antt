@@ -8,12 +8,12 @@ use Rattle.std.proofs.Math.ListN.{length, drop, length-append}
 use Rattle.std.proofs.Math.Bool.{true, false}
 use Rattle.format.specs.Format.{pick}
 use Rattle.format.specs.ReadWrite.{pair_write, spelt, bit, each_write}
-use Rattle.format.specs.Laws.ReadWrite.{length-spelt, length_before}
+use Rattle.format.specs.Laws.ReadWrite.{length_spelt, length_before}
 use Rattle.format.specs.Combinators.{pair, judged, via, seq, ◌then◌, number, count, fixed, flag, each, counted, sized, measured}
 use Rattle.format.specs.declared.Read.{Read}
 use Rattle.format.specs.declared.Read.TheVariants.{Got}
 use Rattle.format.specs.Laws.Seen.{seen, itself}
-use Rattle.format.specs.Laws.Back.{back-got}
+use Rattle.format.specs.Laws.Back.{back_got}
 use Rattle.format.specs.Laws.Written.{behind as past, Stands, Held, Row}
 use Rattle.kind.specs.declared.Product.{Product}
 use Rattle.text.specs.Text.{string}
@@ -21,13 +21,13 @@ use Rattle.kind.specs.Kinds.{kinds, row_in, row_of}
 use Rattle.element.specs.Element.{Element, is_row, data_by, identifier, element}
 use Rattle.rule.specs.Rule.{Rule, rule, fields, from_unknown2, from_unknown4, body, head, separator, placed}
 use Rattle.rule.specs.Places.{rule_bytes, elements_bytes, elements_at, data_at, enabled_at}
-use Rattle.rule.specs.Laws.Parts.{body-size, rule-long}
+use Rattle.rule.specs.Laws.Parts.{body_size, rule_long}
 
 -- ---- of a rule that is known to stand at a place
 
 -- what stands behind a number of k bytes
 behind : (s : List ℕ) (at k to v : ℕ) (w u : List ℕ) → drop at s ≡ (spelt k v ++ w) ++ u → at + k ≡ to → drop to s ≡ w ++ u
-behind s at k to v w u e h = rw (← h) (rw length-spelt at (past s at (spelt k v) (w ++ u) (e ∙ append_assoc (spelt k v) w u)))
+behind s at k to v w u e h = rw (← h) (rw length_spelt at (past s at (spelt k v) (w ++ u) (e ∙ append_assoc (spelt k v) w u)))
 
 -- a number of four bytes that stands before w
 four : (s : List ℕ) (at v : ℕ) (w u : List ℕ) → v < 256 ^ 4 → drop at s ≡ (spelt 4 v ++ w) ++ u → Held (number 4) s at v
@@ -58,12 +58,12 @@ module _ (p : Product) (i : ℕ) (s : List ℕ) (at : ℕ) (xs : List Element) (
       }
 
 -- the count as it was read, and the head behind it
-pub behind-count : (p : Product) (i : ℕ) (s : List ℕ) (at : ℕ) {xs : List Element} {u : List ℕ} {c : Read} {n m : ℕ} → BodyParts p i s at xs u → c ≡ seen itself (number 2) s at → c ≡ Got m n
+pub behind_count : (p : Product) (i : ℕ) (s : List ℕ) (at : ℕ) {xs : List Element} {u : List ℕ} {c : Read} {n m : ℕ} → BodyParts p i s at xs u → c ≡ seen itself (number 2) s at → c ≡ Got m n
     → (n ≡ length xs) × ((m ≡ at + 2) × Held (head i) s m tt)
 unfolding number
-behind-count p i s at {xs = xs} {m = m} b e h =
-    let z = back-got itself (number 2) s at b.many.1 e h in
-    let w : m ≡ at + 2 = z.1 ∙ ap (λ (w : ℕ). at + w) (length-spelt 2 (length xs)) in
+behind_count p i s at {xs = xs} {m = m} b e h =
+    let z = back_got itself (number 2) s at b.many.1 e h in
+    let w : m ≡ at + 2 = z.1 ∙ ap (λ (w : ℕ). at + w) (length_spelt 2 (length xs)) in
     (z.0, (w, rw w b.headed))
 
 -- an element whose data start at a place: its identifier, and the data of a kind that the product has
@@ -91,13 +91,13 @@ module _ (p : Product) (j : ℕ) (s : List ℕ) (at : ℕ) (x : Element) (u : Li
           rw z at (element_parts p s (at + 2) x u (record { fit = c.fit.0.1; is = behind s at 2 (at + 2) 0x8001 ((element p).write x) u c.is refl }))
 
 module _ (j at : ℕ) where
-  pub data-first : j ≡ 0 → at + 4 ≡ data_at j at
+  pub data_first : j ≡ 0 → at + 4 ≡ data_at j at
   unfolding pick
-  data-first e = rw (eq-eqb j 0 e)
+  data_first e = rw (eq-eqb j 0 e)
 
-  pub data-later : (j ≡ 0 → ⊥) → at + 6 ≡ data_at j at
+  pub data_later : (j ≡ 0 → ⊥) → at + 6 ≡ data_at j at
   unfolding pick
-  data-later e = rw (ne_eqb j 0 e)
+  data_later e = rw (ne_eqb j 0 e)
 
 -- its fields; the name ends at a place from which on the others are counted
 pub record RuleParts (p : Product) (i : ℕ) (s : List ℕ) (at : ℕ) (x : Rule) (u : List ℕ) (end : ℕ) : Type 0 where
@@ -113,10 +113,10 @@ pub record RuleParts (p : Product) (i : ℕ) (s : List ℕ) (at : ℕ) (x : Rule
   pub ends : end + 24 + length ((body p i).write x.elements) ≡ at + rule_bytes p i x
   pub begins : end + 24 + 2 + length ((head i).write tt) ≡ elements_at p i at x
 
-bit-small : (b : Bool) → bit b < 256 ^ 4
+bit_small : (b : Bool) → bit b < 256 ^ 4
 unfolding bit pick
-bit-small true = lit< tt
-bit-small false = lit< tt
+bit_small true = lit< tt
+bit_small false = lit< tt
 
 module _ (p : Product) (i : ℕ) (s : List ℕ) (at : ℕ) (x : Rule) (u : List ℕ) where
   pub rule_parts : Stands (rule p i) s at x u → RuleParts p i s at x u (enabled_at at x)
@@ -142,11 +142,11 @@ module _ (p : Product) (i : ℕ) (s : List ℕ) (at : ℕ) (x : Rule) (u : List 
       let e7 = behind s (q + 16) 4 (q + 20) x.unknown5 w7 u e6 (omega arith) in
       let e8 = behind s (q + 20) 4 (q + 24) (length w8) w8 u e7 (omega arith) in
       let bo : Stands (body p i) s (q + 24) x.elements u = record { fit = g.1.1.1.1.0.0.1.0; is = e8 } in
-      let en : q + 24 + length w8 ≡ at + rule_bytes p i x = omega (arith, rule-long p i x, body-size p i x.elements) in
+      let en : q + 24 + length w8 ≡ at + rule_bytes p i x = omega (arith, rule_long p i x, body_size p i x.elements) in
       record {
         signed = four s at x.signature (n ++ w2) u f.0 b.is;
         named = (w2 ++ u, record { fit = f.1.0; is = e1 });
-        switched = four s q (bit x.on) w3 u (bit-small x.on) e2;
+        switched = four s q (bit x.on) w3 u (bit_small x.on) e2;
         two = four s (q + 4) x.unknown2 w4 u g.0 e3;
         three = four s (q + 8) x.unknown3 w5 u g.1.0 e4;
         four = four s (q + 12) x.unknown4 w6 u g.1.1.0 e5;
@@ -158,8 +158,8 @@ module _ (p : Product) (i : ℕ) (s : List ℕ) (at : ℕ) (x : Rule) (u : List 
       }
 
 -- its elements
-pub rule-elements : (p : Product) (i : ℕ) (s : List ℕ) (at : ℕ) (x : Rule) (u : List ℕ) → Stands (rule p i) s at x u → Row (placed p) s 0 (elements_at p i at x) x.elements u
-rule-elements p i s at x u b =
+pub rule_elements : (p : Product) (i : ℕ) (s : List ℕ) (at : ℕ) (x : Rule) (u : List ℕ) → Stands (rule p i) s at x u → Row (placed p) s 0 (elements_at p i at x) x.elements u
+rule_elements p i s at x u b =
     let y = rule_parts p i s at x u b in
     let q = enabled_at at x + 24 in
     rw y.begins at (body_parts p i s q x.elements u y.bodied).elements

@@ -1,12 +1,12 @@
-use Rattle.format.specs.Laws.Format.{bytes-all}
-use Rattle.plan.specs.Laws.Handed.{hand_add-word}
+use Rattle.format.specs.Laws.Format.{bytes_all}
+use Rattle.plan.specs.Laws.Handed.{hand_add_word}
 use Rattle.rule_deck.specs.Laws.Sent.{sent}
 use borrow.Author.Rules.{rules}
 use Rattle.rule_deck.proofs.rule_deck_add_word.Statement.{statement}
 use Rattle.rule_deck.proofs.rule_deck_add_word.Tie as tie
 
 returns : tie.Need-returns
-returns c = sent _ _ _ _ (bytes-all c.before.before.before.before.before.before.before.args.buf.now c.before.before.before.before.before.before.slice-known.given) (hand_add-word c.before.before.before.before.before.before.before.args.word.now c.before.before.before.before.before.shared-slice-known.given) c.before.before.before.add-word.ensures c.pack.ensures
+returns c = sent _ _ _ _ (bytes_all c.before.before.before.before.before.before.before.args.buf.now c.before.before.before.before.before.before.slice-known.given) (hand_add_word c.before.before.before.before.before.before.before.args.word.now c.before.before.before.before.before.shared-slice-known.given) c.before.before.before.add-word.ensures c.pack.ensures
 
 pub rule-deck-add-word-spec : {M : Type 1} → statement M
 rule-deck-add-word-spec = tie.close (tie.spec (λ c κs. search rules) (λ c κs. search rules) (λ c. search rules) returns)

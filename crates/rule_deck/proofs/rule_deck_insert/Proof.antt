@@ -1,12 +1,12 @@
-use Rattle.format.specs.Laws.Format.{bytes-all}
-use Rattle.plan.specs.Laws.Handed.{hand-insert}
+use Rattle.format.specs.Laws.Format.{bytes_all}
+use Rattle.plan.specs.Laws.Handed.{hand_insert}
 use Rattle.rule_deck.specs.Laws.Sent.{sent}
 use borrow.Author.Rules.{rules}
 use Rattle.rule_deck.proofs.rule_deck_insert.Statement.{statement}
 use Rattle.rule_deck.proofs.rule_deck_insert.Tie as tie
 
 returns : tie.Need-returns
-returns c = sent _ _ _ _ (bytes-all c.before.before.before.before.before.before.before.args.buf.now c.before.before.before.before.before.before.slice-known.given) (hand-insert _ c.before.before.before.before.before.before.before.args.second.now _ c.before.before.before.before.before.shared-slice-known.given) c.before.before.before.insert.ensures c.pack.ensures
+returns c = sent _ _ _ _ (bytes_all c.before.before.before.before.before.before.before.args.buf.now c.before.before.before.before.before.before.slice-known.given) (hand_insert _ c.before.before.before.before.before.before.before.args.second.now _ c.before.before.before.before.before.shared-slice-known.given) c.before.before.before.insert.ensures c.pack.ensures
 
 pub rule-deck-insert-spec : {M : Type 1} → statement M
 rule-deck-insert-spec = tie.close (tie.spec (λ c κs. search rules) (λ c κs. search rules) (λ c. search rules) returns)

@@ -3,7 +3,7 @@ use native.Mathlib.Omega.{arith}
 use mathlib.Core.Path.{◌≡◌, refl}
 use lib.ListN.{length, length-set}
 use borrow.Author.Rules.{rules}
-use Rattle.buffer.proofs.Loops.{lowered, lowered-first, lowered-next, lowered-last}
+use Rattle.buffer.proofs.Loops.{lowered, lowered_first, lowered_next, lowered_last}
 use Rattle.shift.proofs.shift_down.Statement.{statement}
 use Rattle.shift.proofs.shift_down.Tie as tie
 
@@ -14,13 +14,13 @@ abbrev decreases-loop : tie.decreases-loop
 decreases-loop p₀ by from₀ p from = length p₀ - from
 
 loop-holds : tie.Need-loop-init invariant-loop decreases-loop
-loop-holds c = (lowered-first _ _, (refl, (omega arith, omega arith)))
+loop-holds c = (lowered_first _ _, (refl, (omega arith, omega arith)))
 
 loop-again : tie.Need-loop-preserved invariant-loop decreases-loop
-loop-again c = (lowered-next _ _ _ _ c.before.before.loop.invariant.0 (omega arith) (omega arith), (simp length-set c.before.before.loop.invariant.1.0, (omega arith, omega arith)))
+loop-again c = (lowered_next _ _ _ _ c.before.before.loop.invariant.0 (omega arith) (omega arith), (simp length-set c.before.before.loop.invariant.1.0, (omega arith, omega arith)))
 
 returns : tie.Need-returns invariant-loop decreases-loop
-returns c = lowered-last _ _ _ _ c.before.loop.invariant.0 (omega arith)
+returns c = lowered_last _ _ _ _ c.before.loop.invariant.0 (omega arith)
 
 pub shift-down-spec : {M : Type 1} → statement M
 shift-down-spec =

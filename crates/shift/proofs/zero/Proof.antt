@@ -3,7 +3,7 @@ use native.Mathlib.Omega.{arith}
 use mathlib.Core.Path.{◌≡◌, refl}
 use lib.ListN.{length, length-set}
 use borrow.Author.Rules.{rules}
-use Rattle.buffer.proofs.Loops.{cleared, cleared-first, cleared-next, cleared-last}
+use Rattle.buffer.proofs.Loops.{cleared, cleared_first, cleared_next, cleared_last}
 use Rattle.shift.proofs.zero.Statement.{statement}
 use Rattle.shift.proofs.zero.Tie as tie
 
@@ -14,13 +14,13 @@ abbrev decreases-loop : tie.decreases-loop
 decreases-loop p₀ i₀ p i = length p₀ - i
 
 loop-holds : tie.Need-loop-init invariant-loop decreases-loop
-loop-holds c = (cleared-first _, (refl, omega arith))
+loop-holds c = (cleared_first _, (refl, omega arith))
 
 loop-again : tie.Need-loop-preserved invariant-loop decreases-loop
-loop-again c = (cleared-next _ _ _ c.before.loop.invariant.0 (omega arith), (simp length-set c.before.loop.invariant.1.0, omega arith))
+loop-again c = (cleared_next _ _ _ c.before.loop.invariant.0 (omega arith), (simp length-set c.before.loop.invariant.1.0, omega arith))
 
 returns : tie.Need-returns invariant-loop decreases-loop
-returns c = cleared-last _ _ _ c.before.loop.invariant.0 (omega arith)
+returns c = cleared_last _ _ _ c.before.loop.invariant.0 (omega arith)
 
 pub zero-spec : {M : Type 1} → statement M
 zero-spec =

@@ -1,7 +1,7 @@
 use borrow.Author.Rules.{rules}
 use Prim.Native.Nat.{◌-◌, ◌≤◌}
 use Rattle.format.specs.declared.Read.TheVariants.{Got}
-use Rattle.steps.specs.Laws.Steps.{Reached, reached-start, reached-go, reached_stop, reached-end}
+use Rattle.steps.specs.Laws.Steps.{Reached, reached_start, reached_go, reached_stop, reached_end}
 use Rattle.steps.proofs.start_of.Statement.{statement}
 use Rattle.steps.proofs.start_of.Tie as tie
 
@@ -12,16 +12,16 @@ abbrev decreases-loop : tie.decreases-loop
 decreases-loop s base k i₀ p₀ i p = k - i
 
 loop-holds : tie.Need-loop-init invariant-loop decreases-loop
-loop-holds c = (reached-start _ _ _, search rules)
+loop-holds c = (reached_start _ _ _, search rules)
 
 returns : tie.Need-returns invariant-loop decreases-loop
 returns c = search (rules, reached_stop)
 
 loop-again : tie.Need-loop-preserved invariant-loop decreases-loop
-loop-again c = (search (rules, reached-go), search rules)
+loop-again c = (search (rules, reached_go), search rules)
 
 returns-2 : tie.Need-returns-2 invariant-loop decreases-loop
-returns-2 c = search (rules, reached-end)
+returns-2 c = search (rules, reached_end)
 
 pub start-of-spec : {M : Type 1} → statement M
 start-of-spec =

@@ -14,25 +14,25 @@ use Rattle.format.specs.declared.Fault.TheVariants as Fault
 use Rattle.format.specs.declared.Read.{Read}
 use Rattle.format.specs.declared.Read.TheVariants.{Got, No}
 use Rattle.format.specs.Format.{got, Bytes, pick}
-use Rattle.format.specs.Laws.ReadWrite.{length-spelt}
+use Rattle.format.specs.Laws.ReadWrite.{length_spelt}
 use Rattle.format.specs.ReadWrite.{value}
 use Rattle.format.specs.Combinators.{number, each}
-use Rattle.format.specs.Laws.Seen.{seen, itself, unlike, got-at, none, number_is, number-no}
-use Rattle.format.specs.Laws.Fours.{fours-no}
+use Rattle.format.specs.Laws.Seen.{seen, itself, unlike, got_at, none, number_is, number_no}
+use Rattle.format.specs.Laws.Fours.{fours_no}
 use Rattle.format.specs.Laws.Written.{Held, Row}
-use Rattle.format.specs.Laws.Back.{Where, stands-seen, stands-room, seen-ends}
+use Rattle.format.specs.Laws.Back.{Where, stands_seen, stands_room, seen_ends}
 use Rattle.format.specs.Row.{start_in}
-use Rattle.format.specs.Laws.Skip.{Skipped, skip-start, skip_step, skip-end, skip-nth, Nth, nth, start_more}
+use Rattle.format.specs.Laws.Skip.{Skipped, skip_start, skip_step, skip_end, skip_nth, Nth, nth, start_more}
 use Rattle.text.specs.Text.{string}
 use Rattle.kind.specs.declared.Product.{Product}
 use Rattle.rule.specs.Rule.{Rule, rule}
-use Rattle.rule.specs.Laws.Parts.{front, back, size_of, body-size, rule-is}
+use Rattle.rule.specs.Laws.Parts.{front, back, size_of, body_size, rule_is}
 use Rattle.rule.specs.Places.{rule_bytes, enabled_at}
 use Rattle.rule.specs.Laws.Places.{rule_parts}
 use Rattle.deck.specs.Deck.{Deck, deck, base_of, read_as}
-use Rattle.deck.specs.Laws.Deck.{read_writes-back}
+use Rattle.deck.specs.Laws.Deck.{read_writes_back}
 use Rattle.deck.specs.Written.{deck_of, written, start_of}
-use Rattle.deck.specs.Laws.Written.{deck-row, written_as, written_is, written_at, rules, rules_cons, before, before-long, start_as}
+use Rattle.deck.specs.Laws.Written.{deck_row, written_as, written_is, written_at, rules, rules_cons, before, before_long, start_as}
 
 -- ---- a sound deck: its rules fit, and it is what they are written as in its version
 pub record Sound (p : Product) (v : ℕ) (s : List ℕ) (rs : List Rule) : Type 0 where
@@ -41,8 +41,8 @@ pub record Sound (p : Product) (v : ℕ) (s : List ℕ) (rs : List Rule) : Type 
   pub short : length s ≤ 60000
 
 -- what was accepted is sound
-pub sound-read : (p : Product) (s : List ℕ) (k : Deck) (n : ℕ) → Bytes s → read_as p s ≡ got k n → Sound p k.version s k.rules
-sound-read p s k n bs e = let w = read_writes-back p s k n bs e in record { fit = w.fit; is = w.is ∙ written_as k.version k.rules p; short = w.short }
+pub sound_read : (p : Product) (s : List ℕ) (k : Deck) (n : ℕ) → Bytes s → read_as p s ≡ got k n → Sound p k.version s k.rules
+sound_read p s k n bs e = let w = read_writes_back p s k n bs e in record { fit = w.fit; is = w.is ∙ written_as k.version k.rules p; short = w.short }
 
 -- rule k of a sound deck, with what stands before it and behind it
 pub record Here (p : Product) (v : ℕ) (s : List ℕ) (rs : List Rule) (k : ℕ) : Type 0 where
@@ -55,11 +55,11 @@ pub record Here (p : Product) (v : ℕ) (s : List ℕ) (rs : List Rule) (k : ℕ
   pub ends : start_of v rs (k + 1) ≡ start_of v rs k + (length (front r) + length (back k r.elements))
 
 -- its rules stand where they start
-sound-row : (p : Product) (v : ℕ) (s : List ℕ) (rs : List Rule) → Sound p v s rs → Row (rule p) s 0 (base_of v (length rs)) rs []
-sound-row p v s rs o = deck-row p s (deck_of v rs) o.fit (o.is ∙ sym (written_as v rs p))
+sound_row : (p : Product) (v : ℕ) (s : List ℕ) (rs : List Rule) → Sound p v s rs → Row (rule p) s 0 (base_of v (length rs)) rs []
+sound_row p v s rs o = deck_row p s (deck_of v rs) o.fit (o.is ∙ sym (written_as v rs p))
 
 pub here : (p : Product) (v : ℕ) (s : List ℕ) (rs : List Rule) (k : ℕ) → Sound p v s rs → k < length rs → Here p v s rs k
-here p v s rs k o l = go (nth (rule p) s (base_of v (length rs)) k (start_in (rule p) (base_of v (length rs)) rs k) rs [] refl (sound-row p v s rs o) l)
+here p v s rs k o l = go (nth (rule p) s (base_of v (length rs)) k (start_in (rule p) (base_of v (length rs)) rs k) rs [] refl (sound_row p v s rs o) l)
   where
     go : Nth (rule p) s (base_of v (length rs)) k (start_in (rule p) (base_of v (length rs)) rs k) rs → Here p v s rs k
     go y =
@@ -70,19 +70,19 @@ here p v s rs k o l = go (nth (rule p) s (base_of v (length rs)) k (start_in (ru
           from = y.whole;
           fits = y.stands.fit;
           is = o.is ∙ (rw (y.whole, rules_cons) at i);
-          starts = before-long v rs k;
-          ends = omega (arith, start_as v rs k p, start_as v rs (k + 1) p, start_more (rule p) (base_of v (length rs)) k rs y.ys y.x y.whole, ap length (rule-is p k y.x), length-append (front y.x) (back k y.x.elements));
+          starts = before_long v rs k;
+          ends = omega (arith, start_as v rs k p, start_as v rs (k + 1) p, start_more (rule p) (base_of v (length rs)) k rs y.ys y.x y.whole, ap length (rule_is p k y.x), length-append (front y.x) (back k y.x.elements));
         }
 
 -- rule k of a sound deck stands where it starts
-pub here-stands : (p : Product) (v : ℕ) (s : List ℕ) (rs : List Rule) (k : ℕ) (h : Here p v s rs k) → Held (rule p k) s (start_of v rs k) h.r
-here-stands p v s rs k h =
+pub here_stands : (p : Product) (v : ℕ) (s : List ℕ) (rs : List Rule) (k : ℕ) (h : Here p v s rs k) → Held (rule p k) s (start_of v rs k) h.r
+here_stands p v s rs k h =
     let L = rules (k + 1) h.later in
-    let w : front h.r ++ (back k h.r.elements ++ L) ≡ (rule p k).write h.r ++ L = rw (rule-is p k h.r, append_assoc) in
+    let w : front h.r ++ (back k h.r.elements ++ L) ≡ (rule p k).write h.r ++ L = rw (rule_is p k h.r, append_assoc) in
     (L, record { fit = h.fits; is = ap (drop (start_of v rs k)) h.is ∙ drop_at (before v rs k) _ (start_of v rs k) h.starts ∙ w })
 
-pub here-at : (p : Product) (v : ℕ) (s : List ℕ) (rs : List Rule) (k a : ℕ) (h : Here p v s rs k) → a ≡ start_of v rs k → Held (rule p k) s a h.r
-here-at p v s rs k a h e = rw e (here-stands p v s rs k h)
+pub here_at : (p : Product) (v : ℕ) (s : List ℕ) (rs : List Rule) (k a : ℕ) (h : Here p v s rs k) → a ≡ start_of v rs k → Held (rule p k) s a h.r
+here_at p v s rs k a h e = rw e (here_stands p v s rs k h)
 
 -- ---- a rule that stands at a place, as it is stepped over
 
@@ -103,113 +103,113 @@ unfoldable pub name_end : List ℕ → ℕ → ℕ
 name_end s at = ended at (name_read s at)
 
 module _ (s : List ℕ) (at : ℕ) where
-  pub name-read : (p : Product) (i : ℕ) (x : Rule) → Held (rule p i) s at x → name_read s at ≡ Got (enabled_at at x) 0
+  pub name_read_lem : (p : Product) (i : ℕ) (x : Rule) → Held (rule p i) s at x → name_read s at ≡ Got (enabled_at at x) 0
   unfolding name_read pick
-  name-read p i x b =
+  name_read_lem p i x b =
       let y = rule_parts p i s at x b.0 b.1 in
-      let h : 4 ≤ length s - at = omega (arith, stands-room (rule p i) s at b.1, y.ends) in
-      rw (le-leb 4 (length s - at) h) (stands-seen none string s (at + 4) y.named.1)
+      let h : 4 ≤ length s - at = omega (arith, stands_room (rule p i) s at b.1, y.ends) in
+      rw (le-leb 4 (length s - at) h) (stands_seen none string s (at + 4) y.named.1)
 
-  pub name-end : (p : Product) (i : ℕ) (x : Rule) → Held (rule p i) s at x → name_end s at ≡ enabled_at at x
+  pub name_end_lem : (p : Product) (i : ℕ) (x : Rule) → Held (rule p i) s at x → name_end s at ≡ enabled_at at x
   unfolding name_end
-  name-end p i x b = ap (ended at) (name-read p i x b)
+  name_end_lem p i x b = ap (ended at) (name_read_lem p i x b)
 
   -- it stands to its end
   all_there : (p : Product) (i : ℕ) (x : Rule) → Held (rule p i) s at x → name_end s at + 24 + size_of i x.elements ≤ length s
-  all_there p i x b = omega (arith, name-end p i x b, (rule_parts p i s at x b.0 b.1).ends, body-size p i x.elements, stands-room (rule p i) s at b.1)
+  all_there p i x b = omega (arith, name_end_lem p i x b, (rule_parts p i s at x b.0 b.1).ends, body_size p i x.elements, stands_room (rule p i) s at b.1)
 
   -- g is what the signature was read as
   module _ {g : Read} (e : g ≡ seen itself (number 4) s at) where
-    pub name-past : {c : Fault} {q : ℕ} → g ≡ No q c → g ≡ name_read s at
+    pub name_past : {c : Fault} {q : ℕ} → g ≡ No q c → g ≡ name_read s at
     unfolding name_read pick
-    name-past h =
+    name_past h =
         elim (dec_lt (length s - at) 4) [
-          | yes l ↦ rw (lt-leb 4 (length s - at) l) (e ∙ sym (number-no 4 s at l))
+          | yes l ↦ rw (lt-leb 4 (length s - at) l) (e ∙ sym (number_no 4 s at l))
           | no l ↦ unlike (e ∙ sym (number_is 4 s at refl (omega arith))) h
         ]
 
-    pub name-is : {t : Read} {v m : ℕ} → g ≡ Got m v → t ≡ seen none string s m → t ≡ name_read s at
+    pub name_is : {t : Read} {v m : ℕ} → g ≡ Got m v → t ≡ seen none string s m → t ≡ name_read s at
     unfolding name_read pick
-    name-is {m = m} h f =
+    name_is {m = m} h f =
         elim (dec_lt (length s - at) 4) [
-          | yes l ↦ unlike h (e ∙ sym (number-no 4 s at l))
+          | yes l ↦ unlike h (e ∙ sym (number_no 4 s at l))
           | no l ↦
               let w : Got (at + 4) (value (take 4 (drop at s))) ≡ g = number_is 4 s at refl (omega arith) ∙ sym e in
               let z : m ≡ at + 4 = cc in
               rw (le-leb 4 (length s - at) (omega arith)) (rw z at f)
         ]
 
-  pub name-within : at ≤ length s → name_end s at ≤ length s
+  pub name_within : at ≤ length s → name_end s at ≤ length s
   unfolding name_end name_read pick
-  name-within l = go (leb 4 (length s - at)) refl (seen none string s (at + 4)) refl
+  name_within l = go (leb 4 (length s - at)) refl (seen none string s (at + 4)) refl
     where
       go : (b : Bool) → leb 4 (length s - at) ≡ b → (t : Read) → seen none string s (at + 4) ≡ t → ended at (pick b t (No at Fault.Cut)) ≤ length s
-      go true e (Got n v) f = omega (arith, leb-true 4 (length s - at) e, seen-ends none string s (at + 4) refl f)
+      go true e (Got n v) f = omega (arith, leb-true 4 (length s - at) e, seen_ends none string s (at + 4) refl f)
       go true e (No q c) f = l
       go false e t f = l
 
   -- t is what the name was read as
   module _ {t : Read} (f : t ≡ name_read s at) where
-    pub name-got : {u m : ℕ} → t ≡ Got m u → m ≡ name_end s at
+    pub name_got : {u m : ℕ} → t ≡ Got m u → m ≡ name_end s at
     unfolding name_end
-    name-got h = ap (ended at) (sym h ∙ f)
+    name_got h = ap (ended at) (sym h ∙ f)
 
-    pub name-never : {B : Type 0} {c : Fault} {q : ℕ} → t ≡ No q c → (p : Product) (i : ℕ) (x : Rule) → Held (rule p i) s at x → B
-    name-never h p i x b = unlike (f ∙ name-read p i x b) h
+    pub name_never : {B : Type 0} {c : Fault} {q : ℕ} → t ≡ No q c → (p : Product) (i : ℕ) (x : Rule) → Held (rule p i) s at x → B
+    name_never h p i x b = unlike (f ∙ name_read_lem p i x b) h
 
   -- m is where the name ends, z what Data Size was read as
   module _ {m : ℕ} {z : Read} where
-    pub size-read : (p : Product) (i : ℕ) (x : Rule) → Held (rule p i) s at x → m ≡ name_end s at → z ≡ seen itself (number 4) s (m + 20) → z ≡ Got (m + 20 + 4) (size_of i x.elements)
+    pub size_read : (p : Product) (i : ℕ) (x : Rule) → Held (rule p i) s at x → m ≡ name_end s at → z ≡ seen itself (number 4) s (m + 20) → z ≡ Got (m + 20 + 4) (size_of i x.elements)
     unfolding number
-    size-read p i x b e f =
-        let w = e ∙ name-end p i x b in
+    size_read p i x b e f =
+        let w = e ∙ name_end_lem p i x b in
         let y = (rule_parts p i s at x b.0 b.1).sizes in
-        rw w (rw w at f ∙ (rw (length-spelt, body-size) at (stands-seen itself (number 4) s _ y.1)))
+        rw w (rw w at f ∙ (rw (length_spelt, body_size) at (stands_seen itself (number 4) s _ y.1)))
 
     pub size_is : {v q : ℕ} (p : Product) (i : ℕ) (x : Rule) → Held (rule p i) s at x → m ≡ name_end s at → z ≡ seen itself (number 4) s (m + 20) → z ≡ Got q v → (v ≡ size_of i x.elements) × (q ≡ m + 20 + 4)
-    size_is {v} {q} p i x b e f k = let g : Got q v ≡ Got (m + 20 + 4) (size_of i x.elements) = sym k ∙ size-read p i x b e f in ((cc), (cc))
+    size_is {v} {q} p i x b e f k = let g : Got q v ≡ Got (m + 20 + 4) (size_of i x.elements) = sym k ∙ size_read p i x b e f in ((cc), (cc))
 
   module _ {t : Read} where
     pub follows_unnamed : (r : Read) {c : Fault} {q : ℕ} → t ≡ name_read s at → t ≡ No q c → Follows s at r
     unfolding Follows Where
-    follows_unnamed r f h p i x b = name-never f h p i x b
+    follows_unnamed r f h p i x b = name_never f h p i x b
 
     module _ {u m : ℕ} where
-      pub follows-short : (r : Read) {w : Read} {c : Fault} {q : ℕ} → t ≡ name_read s at → t ≡ Got m u → w ≡ seen none (each (λ i. number 4) 0 6) s m → w ≡ No q c → Follows s at r
+      pub follows_short : (r : Read) {w : Read} {c : Fault} {q : ℕ} → t ≡ name_read s at → t ≡ Got m u → w ≡ seen none (each (λ i. number 4) 0 6) s m → w ≡ No q c → Follows s at r
       unfolding Follows Where
-      follows-short r f h g k p i x b = absurd (omega (arith, name-got f h, all_there p i x b, (fours-no s m 6 g k).0))
+      follows_short r f h g k p i x b = absurd (omega (arith, name_got f h, all_there p i x b, (fours_no s m 6 g k).0))
 
       module _ {z : Read} where
         pub follows_unsized : (r : Read) {c : Fault} {q : ℕ} → t ≡ name_read s at → t ≡ Got m u → z ≡ seen itself (number 4) s (m + 20) → z ≡ No q c → Follows s at r
         unfolding Follows Where
-        follows_unsized r f h o k p i x b = unlike (size-read p i x b (name-got f h) o) k
+        follows_unsized r f h o k p i x b = unlike (size_read p i x b (name_got f h) o) k
 
         module _ {v q : ℕ} where
           pub follows_cut : (r : Read) → t ≡ name_read s at → t ≡ Got m u → z ≡ seen itself (number 4) s (m + 20) → z ≡ Got q v → length s < q + v → Follows s at r
           unfolding Follows Where
           follows_cut r f h o k l p i x b =
-              let e = name-got f h in
+              let e = name_got f h in
               let d = size_is p i x b e o k in
               absurd (omega (arith, all_there p i x b, d.0, d.1, e))
 
           pub follows_is : t ≡ name_read s at → t ≡ Got m u → z ≡ seen itself (number 4) s (m + 20) → z ≡ Got q v → Follows s at (Got (q + v) 0)
           unfolding Follows Where
           follows_is f h o k p i x b =
-              let e = name-got f h in
+              let e = name_got f h in
               let d = size_is p i x b e o k in
-              got-at (omega (arith, (rule_parts p i s at x b.0 b.1).ends, body-size p i x.elements, d.0, d.1, e, name-end p i x b))
+              got_at (omega (arith, (rule_parts p i s at x b.0 b.1).ends, body_size p i x.elements, d.0, d.1, e, name_end_lem p i x b))
 
-pub ruleset following = (follows_unnamed, follows-short, follows_unsized, follows_cut, follows_is)
+pub ruleset following = (follows_unnamed, follows_short, follows_unsized, follows_cut, follows_is)
 
 -- r is what was told of its end
 module _ (s : List ℕ) (at : ℕ) {r : Read} (f : Follows s at r) (p : Product) (i : ℕ) where
-  pub follows-got : {v q : ℕ} → r ≡ Got q v → Where (rule p i) s at (λ x. at + rule_bytes p i x) q
+  pub follows_got : {v q : ℕ} → r ≡ Got q v → Where (rule p i) s at (λ x. at + rule_bytes p i x) q
   unfolding Follows Where
-  follows-got {v} {q} h x b = let g : Got q v ≡ Got (at + rule_bytes p i x) 0 = sym h ∙ f p i x b in cc
+  follows_got {v} {q} h x b = let g : Got q v ≡ Got (at + rule_bytes p i x) 0 = sym h ∙ f p i x b in cc
 
-  pub follows-never : {B : Type 0} {c : Fault} {q : ℕ} → r ≡ No q c → (x : Rule) → Held (rule p i) s at x → B
+  pub follows_never : {B : Type 0} {c : Fault} {q : ℕ} → r ≡ No q c → (x : Rule) → Held (rule p i) s at x → B
   unfolding Follows Where
-  follows-never h x b = unlike (f p i x b) h
+  follows_never h x b = unlike (f p i x b) h
 
 -- ---- from rule to rule
 
@@ -218,45 +218,45 @@ unfoldable pub Reached : List ℕ → ℕ → ℕ → ℕ → Read → Type 0
 Reached s base k i r = (p : Product) → Skipped (rule p) s base k i r
 
 module _ (s : List ℕ) (base k : ℕ) where
-  pub reached-start : Reached s base k 0 (Got base 0)
+  pub reached_start : Reached s base k 0 (Got base 0)
   unfolding Reached
-  reached-start p = skip-start (rule p) s base k
+  reached_start p = skip_start (rule p) s base k
 
   module _ (i at : ℕ) where
-    pub reached-go : {r : Read} {v q : ℕ} → Reached s base k i (Got at 0) → i < k → Follows s at r → r ≡ Got q v → Reached s base k (i + 1) (Got q 0)
+    pub reached_go : {r : Read} {v q : ℕ} → Reached s base k i (Got at 0) → i < k → Follows s at r → r ≡ Got q v → Reached s base k (i + 1) (Got q 0)
     unfolding Reached
-    reached-go w l f h p = skip_step (rule p) s base k i at (w p) _ l (follows-got s at f p i h)
+    reached_go w l f h p = skip_step (rule p) s base k i at (w p) _ l (follows_got s at f p i h)
 
     pub reached_stop : {r : Read} {c : Fault} {q : ℕ} → Reached s base k i (Got at 0) → i < k → Follows s at r → r ≡ No q c → Reached s base k k r
     unfolding Reached Skipped
-    reached_stop w l f h p xs t row m = let n = skip-nth (rule p) s base k i at (w p) xs t row m l in follows-never s at f p i h n.x (n.tail, n.stands)
+    reached_stop w l f h p xs t row m = let n = skip_nth (rule p) s base k i at (w p) xs t row m l in follows_never s at f p i h n.x (n.tail, n.stands)
 
-    pub reached-end : Reached s base k i (Got at 0) → i ≤ k → k ≤ i → Reached s base k k (Got at 0)
+    pub reached_end : Reached s base k i (Got at 0) → i ≤ k → k ≤ i → Reached s base k k (Got at 0)
     unfolding Reached
-    reached-end w l m p = skip-end (rule p) s base k i at (w p) l m
+    reached_end w l m p = skip_end (rule p) s base k i at (w p) l m
 
   -- of a sound deck
-  pub reached-is : (i : ℕ) {r : Read} → Reached s base k i r → (p : Product) (v : ℕ) (rs : List Rule) → Sound p v s rs → base ≡ base_of v (length rs) → k ≤ length rs → r ≡ Got (start_of v rs i) 0
+  pub reached_is : (i : ℕ) {r : Read} → Reached s base k i r → (p : Product) (v : ℕ) (rs : List Rule) → Sound p v s rs → base ≡ base_of v (length rs) → k ≤ length rs → r ≡ Got (start_of v rs i) 0
   unfolding Reached Skipped
-  reached-is i w p v rs o e l = w p rs [] (rw e (sound-row p v s rs o)) l ∙ got-at (ap (λ (b : ℕ). start_in (rule p) b rs i) e ∙ start_as v rs i p)
+  reached_is i w p v rs o e l = w p rs [] (rw e (sound_row p v s rs o)) l ∙ got_at (ap (λ (b : ℕ). start_in (rule p) b rs i) e ∙ start_as v rs i p)
 
 -- ---- past the last rule, and within the deck
 
 module _ (p : Product) (v : ℕ) (s : List ℕ) (rs : List Rule) (k : ℕ) (o : Sound p v s rs) where
   -- past the last rule there is only the end of the deck
-  pub start-past : length rs ≤ k → start_of v rs k ≡ length s
+  pub start_past : length rs ≤ k → start_of v rs k ≡ length s
   unfolding before
-  start-past l =
+  start_past l =
       let t : take k rs ≡ rs = take_all k rs l in
-      sym (before-long v rs k) ∙ rw t (sym (ap length (o.is ∙ written_is v rs)))
+      sym (before_long v rs k) ∙ rw t (sym (ap length (o.is ∙ written_is v rs)))
 
 module _ (p : Product) (v : ℕ) (s : List ℕ) (rs : List Rule) (k : ℕ) (o : Sound p v s rs) where
   -- a rule stands within its deck
-  pub start-within : (start_of v rs k ≤ start_of v rs (k + 1)) × (start_of v rs (k + 1) ≤ length s)
-  start-within =
+  pub start_within : (start_of v rs k ≤ start_of v rs (k + 1)) × (start_of v rs (k + 1) ≤ length s)
+  start_within =
       elim (dec_lt k (length rs)) [
         | yes l ↦ inside (here p v s rs k o l)
-        | no l ↦ let a = start-past p v s rs k o (omega arith) in let b = start-past p v s rs (k + 1) o (omega arith) in (omega arith, omega arith)
+        | no l ↦ let a = start_past p v s rs k o (omega arith) in let b = start_past p v s rs (k + 1) o (omega arith) in (omega arith, omega arith)
       ]
     where
       inside : Here p v s rs k → (start_of v rs k ≤ start_of v rs (k + 1)) × (start_of v rs (k + 1) ≤ length s)

@@ -1,14 +1,14 @@
-use Rattle.format.specs.Laws.Format.{bytes-all}
-use Rattle.plan.specs.Laws.Found.{edit-no, edit-done}
+use Rattle.format.specs.Laws.Format.{bytes_all}
+use Rattle.plan.specs.Laws.Found.{edit_no, edit_done}
 use borrow.Author.Rules.{rules}
 use Rattle.switch.proofs.switch.Statement.{statement}
 use Rattle.switch.proofs.switch.Tie as tie
 
 returns : tie.Need-returns
-returns c = edit-no _ _ _ _ _ c.before.before.before.find.ensures c.before.enum_told.given.1 c.spot-says.ensures
+returns c = edit_no _ _ _ _ _ c.before.before.before.find.ensures c.before.enum_told.given.1 c.spot-says.ensures
 
 returns-2 : tie.Need-returns-2
-returns-2 c = edit-done _ _ _ _ _ (bytes-all c.before.before.before.before.before.before.before.before.before.before.args.buf.now c.before.before.before.before.before.before.before.before.before.slice-known.given) c.before.before.before.before.before.before.before.find.ensures c.before.before.before.before.before.f.given.1 (c.before.before.switch-at.ensures _)
+returns-2 c = edit_done _ _ _ _ _ (bytes_all c.before.before.before.before.before.before.before.before.before.before.args.buf.now c.before.before.before.before.before.before.before.before.before.slice-known.given) c.before.before.before.before.before.before.before.find.ensures c.before.before.before.before.before.f.given.1 (c.before.before.switch-at.ensures _)
 
 pub switch-spec : {M : Type 1} → statement M
 switch-spec =

@@ -25,12 +25,12 @@ use Rattle.scan.specs.declared.Scan.{Scan}
 use Rattle.scan.specs.declared.Scan.TheVariants as Scan
 use Rattle.scan.specs.Scan.{scan_says}
 use Rattle.deck.specs.Deck.{Deck, base_of, read_as, read_by, read_deck, scanned}
-use Rattle.deck.specs.Laws.Deck.{read_writes-back, deck-small}
-use Rattle.deck.specs.Laws.Written.{deck-row, written_as, written-long}
+use Rattle.deck.specs.Laws.Deck.{read_writes_back, deck_small}
+use Rattle.deck.specs.Laws.Written.{deck_row, written_as, written_long}
 use Rattle.fill.specs.Rows.{rule_width, element_width, rule_rows, all_element_rows}
 use Rattle.tables.specs.Tables.{in_tables, tabled, rules_left, elements_left, read_says, rules_after, elements_after}
 use Rattle.buffer.specs.Laid.{put}
-use Rattle.fill.specs.Laws.Parts.{RulesFill, rule_rows-long, all_rows-long}
+use Rattle.fill.specs.Laws.Parts.{RulesFill, rule_rows_long, all_rows_long}
 
 -- what the first pass tells
 record Tells (p : Product) (s : List ℕ) (b n m : ℕ) : Type 0 where
@@ -71,8 +71,8 @@ module _ (edition : ℕ) (s : List ℕ) {d : Edition} (f : d ≡ edition_of edit
     read_small i bs =
         let a = found i in
         let k = a.deck in
-        let w = read_writes-back p s k a.ends bs a.is in
-        (w.short, (omega (arith, a.base, ap length (w.is ∙ written_as k.version k.rules p), written-long k.version k.rules), omega (arith, a.rules, deck-small p k w.fit)))
+        let w = read_writes_back p s k a.ends bs a.is in
+        (w.short, (omega (arith, a.base, ap length (w.is ∙ written_as k.version k.rules p), written_long k.version k.rules), omega (arith, a.rules, deck_small p k w.fit)))
 
     module _ (t e : List ℕ) where
       -- by what was read
@@ -82,8 +82,8 @@ module _ (edition : ℕ) (s : List ℕ) {d : Edition} (f : d ≡ edition_of edit
       answered_as w o = rw (← f, h, w) o
 
       -- it was handed on
-      pub read-refused : {k : Fault} {q : ℕ} {r : Outcome} → c ≡ Scan.No k q → r ≡ scan_says c → Promise (edition_of edition) s t t e e r
-      read-refused {k} {q} i y = rw (y ∙ ap scan_says i) (go (read_as p s) refl (sym i ∙ scan_as))
+      pub read_refused : {k : Fault} {q : ℕ} {r : Outcome} → c ≡ Scan.No k q → r ≡ scan_says c → Promise (edition_of edition) s t t e e r
+      read_refused {k} {q} i y = rw (y ∙ ap scan_says i) (go (read_as p s) refl (sym i ∙ scan_as))
         where
           go : (a : Answer Deck) → read_as p s ≡ a → Scan.No k q ≡ scanned a → Promise (edition_of edition) s t t e e (No k q)
           go (got y m) w z = absurd (let x : ◌≡◌ {A = ℕ} 0 1 = cc in omega arith)
@@ -102,8 +102,8 @@ module _ (edition : ℕ) (s : List ℕ) {d : Edition} (f : d ≡ edition_of edit
           answer = rw (← a.rules, ← a.elements) z
 
           -- where there is none
-          pub read-full : ((v : ℕ) → o ≡ Done v → ⊥) → Promise (edition_of edition) s t t e e o
-          read-full w = answered_as a.is (rw (← answer) (go o w))
+          pub read_full : ((v : ℕ) → o ≡ Done v → ⊥) → Promise (edition_of edition) s t t e e o
+          read_full w = answered_as a.is (rw (← answer) (go o w))
             where
               go : (x : Outcome) → ((v : ℕ) → x ≡ Done v → ⊥) → (x ≡ x) × ((t ≡ rules_left p x (got a.deck a.ends) t) × (e ≡ elements_left p x (got a.deck a.ends) e))
               go (Done v) none = absurd (none v refl)
@@ -131,28 +131,28 @@ module _ (edition : ℕ) (s : List ℕ) {d : Edition} (f : d ≡ edition_of edit
 
               all : (r ≡ Read.Got (base + length (each_write (rule p) 0 rs)) n) × ((t₁ ≡ put t 0 (rule_rows p 0 base rs)) × (e₁ ≡ put e 0 (all_element_rows p 0 base rs)))
               all =
-                  let w = read_writes-back p s a.deck a.ends bs a.is in
+                  let w = read_writes_back p s a.deck a.ends bs a.is in
                   let few = read_small i bs in
                   let y = subst (λ (z : ℕ). RulesFill p s z n t t₁ e e₁ r) a.base x in
-                  y few.0 (omega (arith, few.1.0, a.base)) few.1.1 rs [] (deck-row p s a.deck w.fit w.is) (sym a.rules) (omega (arith, fits.0, rule_rows-long p base rs, a.rules)) (omega (arith, fits.1, all_rows-long p base rs, a.elements))
+                  y few.0 (omega (arith, few.1.0, a.base)) few.1.1 rs [] (deck_row p s a.deck w.fit w.is) (sym a.rules) (omega (arith, fits.0, rule_rows_long p base rs, a.rules)) (omega (arith, fits.1, all_rows_long p base rs, a.elements))
 
               -- it refuses nothing
-              pub read-unlike : {k : Fault} {q : ℕ} {y : Outcome} → r ≡ Read.No q k → Promise (edition_of edition) s t t₁ e e₁ y
-              read-unlike w = unlike all.0 w
+              pub read_unlike : {k : Fault} {q : ℕ} {y : Outcome} → r ≡ Read.No q k → Promise (edition_of edition) s t t₁ e e₁ y
+              read_unlike w = unlike all.0 w
 
               pub read_done : Promise (edition_of edition) s t t₁ e e₁ o
               read_done = answered_as a.is (rw (← answer) (refl, (rw done all.1.0, rw done all.1.1)))
 
 -- as the code judges the room
 module _ (n m rules elements : ℕ) where
-  pub room-rules : rules / rule_width < n → No Fault.Table 0 ≡ in_tables n m rules elements
+  pub room_rules : rules / rule_width < n → No Fault.Table 0 ≡ in_tables n m rules elements
   unfolding in_tables pick
-  room-rules l = rw (lt-leb (rule_width * n) rules (omega arith))
+  room_rules l = rw (lt-leb (rule_width * n) rules (omega arith))
 
-  pub room-elements : n ≤ rules / rule_width → elements / element_width < m → No Fault.Table 1 ≡ in_tables n m rules elements
+  pub room_elements : n ≤ rules / rule_width → elements / element_width < m → No Fault.Table 1 ≡ in_tables n m rules elements
   unfolding in_tables pick
-  room-elements l k = rw (le-leb (rule_width * n) rules (omega arith), lt-leb (element_width * m) elements (omega arith))
+  room_elements l k = rw (le-leb (rule_width * n) rules (omega arith), lt-leb (element_width * m) elements (omega arith))
 
-  pub room-both : n ≤ rules / rule_width → m ≤ elements / element_width → Done n ≡ in_tables n m rules elements
+  pub room_both : n ≤ rules / rule_width → m ≤ elements / element_width → Done n ≡ in_tables n m rules elements
   unfolding in_tables pick
-  room-both l k = rw (le-leb (rule_width * n) rules (omega arith), le-leb (element_width * m) elements (omega arith))
+  room_both l k = rw (le-leb (rule_width * n) rules (omega arith), le-leb (element_width * m) elements (omega arith))

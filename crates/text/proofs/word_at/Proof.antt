@@ -1,4 +1,4 @@
-use Rattle.text.specs.Laws.Seen.{word_stop, word-go}
+use Rattle.text.specs.Laws.Seen.{word_stop, word_go}
 use borrow.Author.Rules.{rules}
 use Rattle.text.proofs.word_at.Statement.{statement}
 use Rattle.text.proofs.word_at.Tie as tie
@@ -7,7 +7,7 @@ returns : tie.Need-returns
 returns c = search (rules, word_stop)
 
 returns-2 : tie.Need-returns-2
-returns-2 c = search (rules, word-go)
+returns-2 c = search (rules, word_go)
 
 pub word-at-spec : {M : Type 1} → statement M
 word-at-spec =

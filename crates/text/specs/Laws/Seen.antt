@@ -15,10 +15,10 @@ use Rattle.format.specs.Format.{Answer, got, refused, shift, mapped, and_then, p
 use Rattle.format.specs.Laws.Format.{bytes_drop}
 use Rattle.format.specs.ReadWrite.{pair_read, home}
 use Rattle.format.specs.Combinators.{pair, via, seq, at_start, nothing, ◌then◌, number, fixed, each}
-use Rattle.format.specs.Laws.Seen.{told, seen, itself, none, told-got, told-no, Faulty, number-no}
+use Rattle.format.specs.Laws.Seen.{told, seen, itself, none, told_got, told_no, Faulty, number_no}
 use Rattle.format.specs.Laws.Written.{Stands}
-use Rattle.format.specs.Laws.Back.{seen-ends}
-use Rattle.format.specs.Laws.Rows.{row-length, number-row, row-no}
+use Rattle.format.specs.Laws.Back.{seen_ends}
+use Rattle.format.specs.Laws.Rows.{row_length, number_row, row_no}
 use Rattle.text.specs.declared.Form.{Form}
 use Rattle.text.specs.declared.Form.TheVariants.{Short, Long}
 use Rattle.text.specs.declared.StringRead.{StringRead}
@@ -36,8 +36,8 @@ unfoldable pub text_seen : {A : Type 0} → (A → Length) → Format A → List
 text_seen f a s at = text_told at f (a.read (drop at s))
 
 -- no String was refused
-pub text-unlike : {B : Type 0} {r : StringRead} {form : Form} {n m p : ℕ} {c : Fault} → r ≡ StringRead.Got m form n → r ≡ StringRead.No p c → B
-text-unlike e h = absurd (let z : ◌≡◌ {A = ℕ} 0 1 = cc in omega arith)
+pub text_unlike : {B : Type 0} {r : StringRead} {form : Form} {n m p : ℕ} {c : Fault} → r ≡ StringRead.Got m form n → r ≡ StringRead.No p c → B
+text_unlike e h = absurd (let z : ◌≡◌ {A = ℕ} 0 1 = cc in omega arith)
 
 -- an answer, from what the code says of it
 pub record Valued {A : Type 0} (at : ℕ) (f : A → Length) (q : Answer A) (form : Form) (n m : ℕ) : Type 0 where
@@ -48,15 +48,15 @@ pub record Valued {A : Type 0} (at : ℕ) (f : A → Length) (q : Answer A) (for
   pub many : n ≡ (f x).1
   pub ends : m ≡ at + k
 
-text-got : {A : Type 0} (at : ℕ) (f : A → Length) (q : Answer A) {r : StringRead} {form : Form} {n m : ℕ} → r ≡ text_told at f q → r ≡ StringRead.Got m form n → Valued at f q form n m
+text_got : {A : Type 0} (at : ℕ) (f : A → Length) (q : Answer A) {r : StringRead} {form : Form} {n m : ℕ} → r ≡ text_told at f q → r ≡ StringRead.Got m form n → Valued at f q form n m
 unfolding text_told
-text-got at f (got x k) e h = record { x = x; k = k; is = refl; forms = (cc); many = (cc); ends = (cc) }
-text-got at f (refused d o) e h = text-unlike h e
+text_got at f (got x k) e h = record { x = x; k = k; is = refl; forms = (cc); many = (cc); ends = (cc) }
+text_got at f (refused d o) e h = text_unlike h e
 
-text-no : {A : Type 0} (at : ℕ) (f : A → Length) (q : Answer A) {r : StringRead} {c : Fault} {p : ℕ} → r ≡ text_told at f q → r ≡ StringRead.No p c → Faulty at q c p
+text_no : {A : Type 0} (at : ℕ) (f : A → Length) (q : Answer A) {r : StringRead} {c : Fault} {p : ℕ} → r ≡ text_told at f q → r ≡ StringRead.No p c → Faulty at q c p
 unfolding text_told
-text-no at f (got x k) e h = text-unlike e h
-text-no at f (refused d o) e h = record { o = o; is = (cc); ends = (cc) }
+text_no at f (got x k) e h = text_unlike e h
+text_no at f (refused d o) e h = record { o = o; is = (cc); ends = (cc) }
 
 -- told as other readers tell it: where it ends
 abbrev pub end_read : StringRead → Read
@@ -72,16 +72,16 @@ module _ {A : Type 0} (f : A → Length) (a : Format A) (s : List ℕ) (at : ℕ
       go (got x n) = refl
       go (refused c p) = refl
 
-  pub text-ends : {form : Form} {n m : ℕ} → r ≡ text_seen f a s at → r ≡ StringRead.Got m form n → m ≤ at + (length s - at)
-  text-ends e h = seen-ends none a s at (end_is e refl) (ap end_read h)
+  pub text_ends : {form : Form} {n m : ℕ} → r ≡ text_seen f a s at → r ≡ StringRead.Got m form n → m ≤ at + (length s - at)
+  text_ends e h = seen_ends none a s at (end_is e refl) (ap end_read h)
 
   -- what stands written at the place
-  pub text-back : {x : A} {u : List ℕ} → Stands a s at x u → r ≡ text_seen f a s at → r ≡ StringRead.Got (at + length (a.write x)) (f x).0 (f x).1
+  pub text_back : {x : A} {u : List ℕ} → Stands a s at x u → r ≡ text_seen f a s at → r ≡ StringRead.Got (at + length (a.write x)) (f x).0 (f x).1
   unfolding text_seen text_told
-  text-back {x} {u} b e = e ∙ rw (b.is, a.back x u b.fit)
+  text_back {x} {u} b e = e ∙ rw (b.is, a.back x u b.fit)
 
-  pub text-told : {x : A} {u : List ℕ} {form : Form} {n m : ℕ} → Stands a s at x u → r ≡ text_seen f a s at → r ≡ StringRead.Got m form n → (m ≡ at + length (a.write x)) × ((form ≡ (f x).0) × (n ≡ (f x).1))
-  text-told {x} {form = form} {n = n} {m = m} b e h = let o : StringRead.Got m form n ≡ StringRead.Got (at + length (a.write x)) (f x).0 (f x).1 = sym h ∙ text-back b e in ((cc), ((cc), (cc)))
+  pub text_told_lem : {x : A} {u : List ℕ} {form : Form} {n m : ℕ} → Stands a s at x u → r ≡ text_seen f a s at → r ≡ StringRead.Got m form n → (m ≡ at + length (a.write x)) × ((form ≡ (f x).0) × (n ≡ (f x).1))
+  text_told_lem {x} {form = form} {n = n} {m = m} b e h = let o : StringRead.Got m form n ≡ StringRead.Got (at + length (a.write x)) (f x).0 (f x).1 = sym h ∙ text_back b e in ((cc), ((cc), (cc)))
 
 -- ---- a String's length: r is what its first byte was read as, w what the two behind it
 
@@ -92,17 +92,17 @@ in_form form (No p c) = StringRead.No p c
 module _ (s : List ℕ) (at : ℕ) {r : Read} (e : r ≡ seen itself (number 1) s at) where
   pub length_none : {x : StringRead} {c : Fault} {p : ℕ} → r ≡ No p c → x ≡ in_form Short r → x ≡ text_seen (λ l. l) string_length s at
   unfolding seen text_seen text_told string_length via pair pair_read mapped and_then
-  length_none h o = let i = told-no at itself ((number 1).read (drop at s)) e h in rw (i.is, ← i.ends) (o ∙ ap (in_form Short) h)
+  length_none h o = let i = told_no at itself ((number 1).read (drop at s)) e h in rw (i.is, ← i.ends) (o ∙ ap (in_form Short) h)
 
   module _ {n p : ℕ} (h : r ≡ Got p n) where
-    pub length-short : (n ≡ 255 → ⊥) → StringRead.Got p Short n ≡ text_seen (λ l. l) string_length s at
+    pub length_short : (n ≡ 255 → ⊥) → StringRead.Got p Short n ≡ text_seen (λ l. l) string_length s at
     unfolding seen text_seen text_told string_length length_behind via pair pair_read nothing mapped shift and_then pick
-    length-short k = let i = told-got at itself ((number 1).read (drop at s)) e h in rw (i.is, ← i.tells, ne_eqb n 255 k, add-zero, ← i.ends)
+    length_short k = let i = told_got at itself ((number 1).read (drop at s)) e h in rw (i.is, ← i.tells, ne_eqb n 255 k, add-zero, ← i.ends)
 
-    pub length-long : {x : StringRead} {w : Read} → n ≡ 255 → w ≡ seen itself long_length s p → x ≡ in_form Long w → x ≡ text_seen (λ l. l) string_length s at
+    pub length_long : {x : StringRead} {w : Read} → n ≡ 255 → w ≡ seen itself long_length s p → x ≡ in_form Long w → x ≡ text_seen (λ l. l) string_length s at
     unfolding seen told text_seen text_told string_length length_behind via pair pair_read mapped shift and_then pick
-    length-long k f o =
-        let i = told-got at itself ((number 1).read (drop at s)) e h in
+    length_long k f o =
+        let i = told_got at itself ((number 1).read (drop at s)) e h in
         rw (i.is, ← i.tells, eq-eqb n 255 k, drop-drop i.n at s, ← i.ends) (o ∙ ap (in_form Long) f ∙ go i.n i.ends (long_length.read (drop p s)))
       where
         go : (m : ℕ) → p ≡ at + m → (q : Answer ℕ) → in_form Long (told p itself q) ≡ text_told at (λ l. l) (mapped {A = ℕ × Length} (λ y. y.1) (shift m (mapped (λ l. (n, l)) (mapped (λ v. (Long, v)) q))))
@@ -116,63 +116,63 @@ refused_at at (StringRead.Got p form n) = StringRead.Got p form n
 refused_at at (StringRead.No p c) = StringRead.No at c
 
 module _ (s : List ℕ) (at : ℕ) {l : StringRead} (e : l ≡ text_seen (λ l. l) string_length s at) where
-  pub length-few : {form : Form} {n p : ℕ} → Bytes s → l ≡ StringRead.Got p form n → n ≤ 255
+  pub length_few : {form : Form} {n p : ℕ} → Bytes s → l ≡ StringRead.Got p form n → n ≤ 255
   unfolding text_seen
-  length-few bs h =
-      let i = text-got at (λ l. l) (string_length.read (drop at s)) e h in
+  length_few bs h =
+      let i = text_got at (λ l. l) (string_length.read (drop at s)) e h in
       rw i.many (length_most i.x (string_length.forth (drop at s) i.x i.k (bytes_drop at s bs) i.is).fit)
 
-  pub length-ends : {form : Form} {n p : ℕ} → l ≡ StringRead.Got p form n → p ≤ length s
-  length-ends h =
+  pub length_ends : {form : Form} {n p : ℕ} → l ≡ StringRead.Got p form n → p ≤ length s
+  length_ends h =
       elim (dec_lt (length s) (at + 1)) [
-        | yes u ↦ text-unlike h (e ∙ sym (length_none s at (number-no 1 s at (omega arith)) refl refl))
-        | no u ↦ omega (arith, text-ends (λ l. l) string_length s at e h)
+        | yes u ↦ text_unlike h (e ∙ sym (length_none s at (number_no 1 s at (omega arith)) refl refl))
+        | no u ↦ omega (arith, text_ends (λ l. l) string_length s at e h)
       ]
 
   module _ (unit : Format ℕ) where
     pub string_stop : {x : StringRead} {c : Fault} {p : ℕ} → l ≡ StringRead.No p c → x ≡ refused_at at l → x ≡ text_seen length_of (string_of unit) s at
     unfolding text_seen text_told string_of at_start home via pair pair_read mapped and_then
-    string_stop h o = let i = text-no at (λ l. l) (string_length.read (drop at s)) e h in rw (i.is, add-zero) (o ∙ ap (refused_at at) h)
+    string_stop h o = let i = text_no at (λ l. l) (string_length.read (drop at s)) e h in rw (i.is, add-zero) (o ∙ ap (refused_at at) h)
 
     -- r is what its units were read as
     module _ (g : List ℕ → ℕ) {form : Form} {n p : ℕ} (h : l ≡ StringRead.Got p form n) {r : Read} (f : r ≡ seen g (each (λ i. unit) 0 n) s p) where
       row : Valued at (λ l. l) (string_length.read (drop at s)) form n p
       unfolding text_seen
-      row = text-got at (λ l. l) (string_length.read (drop at s)) e h
+      row = text_got at (λ l. l) (string_length.read (drop at s)) e h
 
-      pub string-got : {v q : ℕ} → r ≡ Got q v → StringRead.Got q form n ≡ text_seen length_of (string_of unit) s at
+      pub string_got : {v q : ℕ} → r ≡ Got q v → StringRead.Got q form n ≡ text_seen length_of (string_of unit) s at
       unfolding seen text_seen text_told string_of at_start home via pair pair_read mapped shift and_then
-      string-got k =
+      string_got k =
           let i = row in
-          let us = told-got p g ((each (λ i. unit) 0 n).read (drop p s)) f k in
-          let z = row-length (λ i. unit) 0 n (drop p s) us.x us.n us.is in
+          let us = told_got p g ((each (λ i. unit) 0 n).read (drop p s)) f k in
+          let z = row_length (λ i. unit) 0 n (drop p s) us.x us.n us.is in
           rw (i.is, drop-drop i.k at s, ← i.ends, ← i.many, us.is, z, ← i.forms) (ap (λ (m : ℕ). StringRead.Got m form n) (omega (arith, us.ends, i.ends)))
 
-      pub string-no : {c : Fault} {q : ℕ} → r ≡ No q c → StringRead.No at c ≡ text_seen length_of (string_of unit) s at
+      pub string_no : {c : Fault} {q : ℕ} → r ≡ No q c → StringRead.No at c ≡ text_seen length_of (string_of unit) s at
       unfolding seen text_seen text_told string_of at_start home via pair pair_read mapped shift and_then
-      string-no k =
+      string_no k =
           let i = row in
-          let us = told-no p g ((each (λ i. unit) 0 n).read (drop p s)) f k in
+          let us = told_no p g ((each (λ i. unit) 0 n).read (drop p s)) f k in
           rw (i.is, drop-drop i.k at s, ← i.ends, ← i.many, us.is, add-zero)
 
   -- units of any value, w bytes each
   module _ (w : ℕ) {form : Form} {n p : ℕ} (h : l ≡ StringRead.Got p form n) where
-    pub string-is : p + w * n ≤ length s → StringRead.Got (p + w * n) form n ≡ text_seen length_of (string_of (number w)) s at
-    string-is r = string-got (number w) length h (number-row w s p n (omega arith)) refl
+    pub string_is : p + w * n ≤ length s → StringRead.Got (p + w * n) form n ≡ text_seen length_of (string_of (number w)) s at
+    string_is r = string_got (number w) length h (number_row w s p n (omega arith)) refl
 
     pub string_cut : length s < p + w * n → StringRead.No at Fault.Cut ≡ text_seen length_of (string_of (number w)) s at
-    string_cut r = let i = length-ends h in let c = row-no w s p n (omega arith) in string-no (number w) length h c.1 refl
+    string_cut r = let i = length_ends h in let c = row_no w s p n (omega arith) in string_no (number w) length h c.1 refl
 
 -- a word: z is what its 4 zero bytes were read as
 module _ (unit : Format ℕ) (s : List ℕ) (at : ℕ) {z : Read} (e : z ≡ seen none (fixed 4 0 Fault.Field) s at) {x : StringRead} where
   pub word_stop : {c : Fault} {p : ℕ} → z ≡ No p c → x ≡ in_form Short z → x ≡ text_seen length_of (word_of unit) s at
   unfolding seen text_seen text_told word_of ◌then◌ seq via pair pair_read mapped and_then
-  word_stop h o = let i = told-no at none ((fixed 4 0 Fault.Field).read (drop at s)) e h in rw (i.is, ← i.ends) (o ∙ ap (in_form Short) h)
+  word_stop h o = let i = told_no at none ((fixed 4 0 Fault.Field).read (drop at s)) e h in rw (i.is, ← i.ends) (o ∙ ap (in_form Short) h)
 
-  pub word-go : {v p : ℕ} → z ≡ Got p v → x ≡ text_seen length_of (string_of unit) s p → x ≡ text_seen length_of (word_of unit) s at
+  pub word_go : {v p : ℕ} → z ≡ Got p v → x ≡ text_seen length_of (string_of unit) s p → x ≡ text_seen length_of (word_of unit) s at
   unfolding seen text_seen text_told word_of ◌then◌ seq via pair pair_read mapped shift and_then
-  word-go {p = p} h o =
-      let i = told-got at none ((fixed 4 0 Fault.Field).read (drop at s)) e h in
+  word_go {p = p} h o =
+      let i = told_got at none ((fixed 4 0 Fault.Field).read (drop at s)) e h in
       rw (i.is, drop-drop i.n at s, ← i.ends) (o ∙ go i.n i.ends ((string_of unit).read (drop p s)))
     where
       go : (m : ℕ) → p ≡ at + m → (q : Answer Text) → text_told p length_of q ≡ text_told at length_of (mapped {A = Unit {0} × Text} (λ y. y.1) (shift m (mapped (λ t. (tt, t)) q)))

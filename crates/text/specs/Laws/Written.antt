@@ -8,7 +8,7 @@ use mathlib.Core.List.{List, [], ◌∷◌, ◌++◌, append-nil}
 use Rattle.std.proofs.Math.ListN.{length-append}
 use Rattle.format.specs.Format.{pick, Format}
 use Rattle.format.specs.ReadWrite.{pair_write, spelt, each_write, AllFit}
-use Rattle.format.specs.Laws.ReadWrite.{length-spelt, length_before}
+use Rattle.format.specs.Laws.ReadWrite.{length_spelt, length_before}
 use Rattle.format.specs.Combinators.{pair, via, judged, seq, at_start, nothing, ◌then◌, number, fixed, each}
 use Rattle.format.specs.Laws.Combinators.{ComputingFormats}
 use Rattle.text.specs.declared.Form.{Form}
@@ -32,67 +32,67 @@ short_not : (n : ℕ) → string_length.Fit (Short, n) → n ≡ 255 → ⊥
 unfolding string_length length_behind via pair pick
 short_not n f e = let h = rw (eq-eqb n 255 e) at f.0.1 in let z : ◌≡◌ {A = ℕ} 3 1 = ap (λ (l : Length). length_size l.0) h.1 in omega arith
 
-pub short-few : (n : ℕ) → string_length.Fit (Short, n) → n ≤ 254
+pub short_few : (n : ℕ) → string_length.Fit (Short, n) → n ≤ 254
 unfolding string_length via pair number
-short-few n f = let h = f.0.0 in let k = short_not n f in omega arith
+short_few n f = let h = f.0.0 in let k = short_not n f in omega arith
 
-pub fits-short : (n : ℕ) → n ≤ 254 → string_length.Fit (Short, n)
+pub fits_short : (n : ℕ) → n ≤ 254 → string_length.Fit (Short, n)
 unfolding string_length length_behind via pair nothing number pick
-fits-short n h = rw (ne_eqb n 255 (λ e. omega arith)) (((omega arith, (tt, refl)), refl))
+fits_short n h = rw (ne_eqb n 255 (λ e. omega arith)) (((omega arith, (tt, refl)), refl))
 
-pub fits-long : (n : ℕ) → n ≤ 255 → string_length.Fit (Long, n)
+pub fits_long : (n : ℕ) → n ≤ 255 → string_length.Fit (Long, n)
 unfolding string_length length_behind long_length via pair judged number pick
-fits-long n h = (((lit< tt, (((omega arith, le-leb n 255 h)), refl)), refl))
+fits_long n h = (((lit< tt, (((omega arith, le-leb n 255 h)), refl)), refl))
 
 pub length_most : (l : Length) → string_length.Fit l → l.1 ≤ 255
 unfolding string_length length_behind long_length via pair judged pick
-length_most (Short, n) f = let h = short-few n f in omega arith
+length_most (Short, n) f = let h = short_few n f in omega arith
 length_most (Long, n) f = leb-true n 255 f.0.1.0.1
 
-pub length-size : (l : Length) → string_length.Fit l → length (string_length.write l) ≡ length_size l.0
+pub length_size_lem : (l : Length) → string_length.Fit l → length (string_length.write l) ≡ length_size l.0
 unfolding string_length length_behind long_length via pair pair_write judged nothing number pick
-length-size (Short, n) f = rw (ne_eqb n 255 (short_not n f)) (omega (arith, length_before 1 n []))
-length-size (Long, n) f = omega (arith, length_before 1 255 (spelt 2 n), length-spelt 2 n)
+length_size_lem (Short, n) f = rw (ne_eqb n 255 (short_not n f)) (omega (arith, length_before 1 n []))
+length_size_lem (Long, n) f = omega (arith, length_before 1 255 (spelt 2 n), length_spelt 2 n)
 
 -- the shortest form
-form-long : (n : ℕ) → n ≡ 255 → form_of n ≡ Long
+form_long : (n : ℕ) → n ≡ 255 → form_of n ≡ Long
 unfolding form_of pick
-form-long n e = rw e
+form_long n e = rw e
 
-form-short : (n : ℕ) → (n ≡ 255 → ⊥) → form_of n ≡ Short
+form_short : (n : ℕ) → (n ≡ 255 → ⊥) → form_of n ≡ Short
 unfolding form_of pick
-form-short n h = rw (ne_eqb n 255 h)
+form_short n h = rw (ne_eqb n 255 h)
 
 pub length_255 : (n : ℕ) → n ≡ 255 → string_length.write (form_of n, n) ≡ spelt 3 0x00FFFF
 unfolding string_length length_behind long_length via pair pair_write judged number pick spelt
-length_255 n e = rw (form-long n e, e)
+length_255 n e = rw (form_long n e, e)
 
-pub length-other : (n : ℕ) → (n ≡ 255 → ⊥) → string_length.write (form_of n, n) ≡ spelt 1 n
+pub length_other : (n : ℕ) → (n ≡ 255 → ⊥) → string_length.write (form_of n, n) ≡ spelt 1 n
 unfolding string_length length_behind via pair pair_write nothing number pick
-length-other n h = rw (form-short n h, ne_eqb n 255 h) (append-nil (spelt 1 n))
+length_other n h = rw (form_short n h, ne_eqb n 255 h) (append-nil (spelt 1 n))
 
-pub length-fits : (n : ℕ) → n ≤ 255 → string_length.Fit (form_of n, n)
-length-fits n h =
+pub length_fits : (n : ℕ) → n ≤ 255 → string_length.Fit (form_of n, n)
+length_fits n h =
     elim (dec_lt n 255) [
-      | yes l ↦ rw (form-short n (λ e. omega arith)) (fits-short n (omega arith))
-      | no l ↦ rw (form-long n (omega arith)) (fits-long n h)
+      | yes l ↦ rw (form_short n (λ e. omega arith)) (fits_short n (omega arith))
+      | no l ↦ rw (form_long n (omega arith)) (fits_long n h)
     ]
 
 -- ---- a String: its length, then its units
 
 module _ (unit : Format ℕ) where
-  pub string-written : (t : Text) → (string_of unit).write t ≡ string_length.write (length_of t) ++ each_write (λ j. unit) 0 t.units
+  pub string_written : (t : Text) → (string_of unit).write t ≡ string_length.write (length_of t) ++ each_write (λ j. unit) 0 t.units
   unfolding string_of at_start via pair pair_write each
-  string-written t = refl
+  string_written t = refl
 
   -- which Strings can be written
-  pub string-fits : (t : Text) → (string_of unit).Fit t → string_length.Fit (length_of t) × AllFit (λ j. unit) 0 t.units
+  pub string_fits : (t : Text) → (string_of unit).Fit t → string_length.Fit (length_of t) × AllFit (λ j. unit) 0 t.units
   unfolding string_of at_start via pair each
-  string-fits t f = (f.0.0, f.0.1.1)
+  string_fits t f = (f.0.0, f.0.1.1)
 
-  pub fits-string : (t : Text) → string_length.Fit (length_of t) → AllFit (λ j. unit) 0 t.units → (string_of unit).Fit t
+  pub fits_string : (t : Text) → string_length.Fit (length_of t) → AllFit (λ j. unit) 0 t.units → (string_of unit).Fit t
   unfolding string_of at_start via pair each
-  fits-string t f g = ((f, (refl, g)), refl)
+  fits_string t f g = ((f, (refl, g)), refl)
 
   pub word_fits : (t : Text) → (word_of unit).Fit t → (string_of unit).Fit t
   unfolding word_of ◌then◌ seq via pair
@@ -103,27 +103,27 @@ module _ (unit : Format ℕ) where
   fits_word t f = ((((lit< tt, refl), refl), f), refl)
 
   -- a word's 4 zero bytes before it
-  pub word-written : (t : Text) → (word_of unit).write t ≡ spelt 4 0 ++ (string_of unit).write t
+  pub word_written : (t : Text) → (word_of unit).write t ≡ spelt 4 0 ++ (string_of unit).write t
   unfolding word_of fixed ◌then◌ seq via judged pair pair_write number
-  word-written t = refl
+  word_written t = refl
 
-  pub word-length : (t : Text) → length ((word_of unit).write t) ≡ 4 + length ((string_of unit).write t)
-  word-length t = omega (arith, ap length (word-written t), length_before 4 0 ((string_of unit).write t))
+  pub word_length : (t : Text) → length ((word_of unit).write t) ≡ 4 + length ((string_of unit).write t)
+  word_length t = omega (arith, ap length (word_written t), length_before 4 0 ((string_of unit).write t))
 
   -- units of w bytes each
   module _ (w : ℕ) (wide : (u : ℕ) → length (unit.write u) ≡ w) where
-    units-long : (i : ℕ) (us : List ℕ) → length (each_write (λ j. unit) i us) ≡ w * length us
+    units_long : (i : ℕ) (us : List ℕ) → length (each_write (λ j. unit) i us) ≡ w * length us
     unfolding each_write
-    units-long i [] = omega (arith, mul-zero w)
-    units-long i (u ∷ us) = omega (arith, length-append (unit.write u) (each_write (λ j. unit) (i + 1) us), wide u, units-long (i + 1) us, mul-suc w (length us))
+    units_long i [] = omega (arith, mul-zero w)
+    units_long i (u ∷ us) = omega (arith, length-append (unit.write u) (each_write (λ j. unit) (i + 1) us), wide u, units_long (i + 1) us, mul-suc w (length us))
 
-    pub string-length : (t : Text) → length ((string_of unit).write t) ≡ length (string_length.write (length_of t)) + w * length t.units
-    string-length t = omega (arith, ap length (string-written t), length-append (string_length.write (length_of t)) (each_write (λ j. unit) 0 t.units), units-long 0 t.units)
+    pub string_length_lem : (t : Text) → length ((string_of unit).write t) ≡ length (string_length.write (length_of t)) + w * length t.units
+    string_length_lem t = omega (arith, ap length (string_written t), length-append (string_length.write (length_of t)) (each_write (λ j. unit) 0 t.units), units_long 0 t.units)
 
 -- those of a deck
-pub string-long : (t : Text) → length (string.write t) ≡ length (string_length.write (length_of t)) + 2 * length t.units
+pub string_long : (t : Text) → length (string.write t) ≡ length (string_length.write (length_of t)) + 2 * length t.units
 unfolding number
-string-long t = string-length unit 2 (length-spelt 2) t
+string_long t = string_length_lem unit 2 (length_spelt 2) t
 
 -- ---- where a case is computed
 unfoldable pub ComputingTexts : Type 0

@@ -1,4 +1,4 @@
-use Rattle.value.specs.Laws.Places.{value_none, value_off, value-of}
+use Rattle.value.specs.Laws.Places.{value_none, value_off, value_of_lem}
 use borrow.Author.Rules.{rules}
 use Rattle.value.proofs.value_of.Statement.{statement}
 use Rattle.value.proofs.value_of.Tie as tie
@@ -10,7 +10,7 @@ returns-2 : tie.Need-returns-2
 returns-2 c = value_off _ _ _ c.before.before.before.before.before.before.before.edition-of.ensures c.before.before.before.before.before.e.given.1 c.before.before.before.row-for.ensures c.before.enum-told2.given.1 c.off.ensures
 
 returns-3 : tie.Need-returns-3
-returns-3 c = value-of _ _ _ c.before.before.before.before.before.before.before.before.edition-of.ensures c.before.before.before.before.before.before.e.given.1 c.before.before.before.before.row-for.ensures c.before.before.row.given.1 c.value_as.ensures
+returns-3 c = value_of_lem _ _ _ c.before.before.before.before.before.before.before.before.edition-of.ensures c.before.before.before.before.before.before.e.given.1 c.before.before.before.before.row-for.ensures c.before.before.row.given.1 c.value_as.ensures
 
 pub value-of-spec : {M : Type 1} → statement M
 value-of-spec =

@@ -1,10 +1,10 @@
-use Rattle.value.specs.Laws.Places.{holds-none, words-number, number_fits, words_are}
+use Rattle.value.specs.Laws.Places.{holds_none, words_number, number_fits, words_are}
 use borrow.Author.Rules.{rules}
 use Rattle.value.proofs.words_in.Statement.{statement}
 use Rattle.value.proofs.words_in.Tie as tie
 
 returns : tie.Need-returns
-returns c = holds-none _ _ _ _ _ _ _ (λ d x. (_, words-number _ d x)) c.before.before.before.u32-at.ensures c.before.enum_told.given.1
+returns c = holds_none _ _ _ _ _ _ _ (λ d x. (_, words_number _ d x)) c.before.before.before.u32-at.ensures c.before.enum_told.given.1
 
 cast-t4 : tie.Need-overflow-cast-t4
 cast-t4 c = record { fits = number_fits _ _ c.before.before.before.before.shared-slice-known.given 4 c.before.before.before.u32-at.ensures c.before.r.given.1 }

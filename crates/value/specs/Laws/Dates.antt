@@ -10,7 +10,7 @@ use Rattle.format.specs.Combinators.{pair, seq, judged, via, number}
 use Rattle.format.specs.Laws.Combinators.{then_fit}
 use Rattle.date.specs.Double.{accepted}
 use Rattle.date.specs.Date.{date}
-use Rattle.date.proofs.Floats.{date-no_nan, bits_back}
+use Rattle.date.proofs.Floats.{date_no_nan, bits_back}
 use Rattle.kind.specs.declared.Edition.{Edition}
 use Rattle.kind.specs.declared.Edition.TheVariants as Edition
 use Rattle.kind.specs.declared.Kind.{Kind}
@@ -26,17 +26,17 @@ use Rattle.value.specs.declared.Valued.{Valued}
 use Rattle.value.specs.declared.Valued.TheVariants as Valued
 use Rattle.value.specs.Value.{value_in, from_data, from_kind, from_row, from_edition, value_of}
 
-limit-fit : (l : Limit) → limit.Fit l → (l.at < 256 ^ 8) × (accepted l.at ≡ true)
+limit_fit : (l : Limit) → limit.Fit l → (l.at < 256 ^ 8) × (accepted l.at ≡ true)
 unfolding limit seq pair via date judged number
-limit-fit l f = then_fit _ _ l.at f.0.1
+limit_fit l f = then_fit _ _ l.at f.0.1
 
 abbrev pub sound : Limit → Limit
 sound l = record { set = l.set; at = to_bits binary64 (of_bits binary64 l.at) }
 
-pub limit-back : (l : Limit) → limit.Fit l → (sound l ≡ l) × (accepted (to_bits binary64 (of_bits binary64 l.at)) ≡ true)
-limit-back l f =
-    let p = limit-fit l f in
-    let e = bits_back l.at (omega (arith, p.0)) (date-no_nan l.at p.1) in
+pub limit_back : (l : Limit) → limit.Fit l → (sound l ≡ l) × (accepted (to_bits binary64 (of_bits binary64 l.at)) ≡ true)
+limit_back l f =
+    let p = limit_fit l f in
+    let e = bits_back l.at (omega (arith, p.0)) (date_no_nan l.at p.1) in
     (ap (λ (n : ℕ). record { set = l.set; at = n }) e, ap accepted e ∙ p.1)
 
 -- ---- what holds of every value that data of a kind have holds of those that lone data have
@@ -46,9 +46,9 @@ Has P (Valued.Is v) = P v
 Has P (Valued.No c q) = Unit {0}
 Has P (Valued.Given c q) = Unit {0}
 
-pub value-has : (P : Value → Type 0) (id : ℕ) → ((k : Kind) (d : Data) → (data_of k).Fit d → P (value_in k id d)) → (edition : ℕ) (s : List ℕ) → Bytes s → Has P (value_of edition id s)
+pub value_has : (P : Value → Type 0) (id : ℕ) → ((k : Kind) (d : Data) → (data_of k).Fit d → P (value_in k id d)) → (edition : ℕ) (s : List ℕ) → Bytes s → Has P (value_of edition id s)
 unfolding value_of from_kind whole pick
-value-has P id f edition s b = by (edition_of edition)
+value_has P id f edition s b = by (edition_of edition)
   where
     read : (k : Kind) (a : Answer Data) → (data_of k).read s ≡ a → Has P (from_data k id (whole (length s) a))
     read k (got d n) r = ends (eqb n (length s))
@@ -66,8 +66,8 @@ value-has P id f edition s b = by (edition_of edition)
     by (Edition.Of p) = row (row_of p id)
     by Edition.Unknown = tt
 
-pub has-is : (P : Value → Type 0) {x y : Valued} {v : Value} → x ≡ Valued.Is v → x ≡ y → Has P y → P v
-has-is P e f d = rw (← f, e) at d
+pub has_is : (P : Value → Type 0) {x y : Valued} {v : Value} → x ≡ Valued.Is v → x ≡ y → Has P y → P v
+has_is P e f d = rw (← f, e) at d
 
 -- ---- so its dates are dates
 
@@ -84,7 +84,7 @@ dated_data id Kind.Marker d f = tt
 dated_data id (Kind.Simple r) d f = tt
 dated_data id Kind.WordList d f = tt
 dated_data id (Kind.Size r) d f = tt
-dated_data id (Kind.Dates r) d f = let g = then_fit _ _ (span_of d) f.0 in ((limit-back (span_of d).0 g.0).1, (limit-back (span_of d).1 g.1).1)
+dated_data id (Kind.Dates r) d f = let g = then_fit _ _ (span_of d) f.0 in ((limit_back (span_of d).0 g.0).1, (limit_back (span_of d).1 g.1).1)
 
-pub dated-is : {v : Value} {x : Span} → Dated v → v ≡ Value.Dates x → Dated (Value.Dates x)
-dated-is f e = rw e at f
+pub dated_is : {v : Value} {x : Span} → Dated v → v ≡ Value.Dates x → Dated (Value.Dates x)
+dated_is f e = rw e at f

@@ -12,11 +12,11 @@ use Rattle.format.specs.declared.Fault.TheVariants as Fault
 use Rattle.format.specs.declared.Read.{Read}
 use Rattle.format.specs.declared.Read.TheVariants.{Got, No}
 use Rattle.format.specs.Format.{Answer, Format, pick, whole}
-use Rattle.format.specs.Laws.Format.{bytes-all}
+use Rattle.format.specs.Laws.Format.{bytes_all}
 use Rattle.format.specs.ReadWrite.{pair_write, spelt, bit}
-use Rattle.format.specs.Laws.ReadWrite.{eqb-bit}
+use Rattle.format.specs.Laws.ReadWrite.{eqb_bit}
 use Rattle.format.specs.Combinators.{pair, seq, ◌then◌, judged, via, number, fixed, flag}
-use Rattle.format.specs.Laws.Seen.{seen, told-got, told-no, itself, none}
+use Rattle.format.specs.Laws.Seen.{seen, told_got, told_no, itself, none}
 use Rattle.date.specs.Double.{accepted}
 use Rattle.element.specs.Data.{Data, Limit, one_zero, limit, word_data, size_data, date_data, data_of, words_of, sizes_of, span_of}
 use Rattle.element.specs.Laws.Data.{list_parts}
@@ -24,8 +24,8 @@ use Rattle.value.specs.declared.Valued.{Valued}
 use Rattle.value.specs.declared.Valued.TheVariants as Valued
 use Rattle.value.specs.Value.{floats, value_in, from_data, from_kind, value_of, value_says, value_answer}
 use Rattle.format.specs.Laws.Written.{Held}
-use Rattle.format.specs.Laws.Back.{Where, back-got, back-no}
-use Rattle.value.specs.Laws.Held.{held-read, held_first, held-second, held-via, held_then, seen-fit}
+use Rattle.format.specs.Laws.Back.{Where, back_got, back_no}
+use Rattle.value.specs.Laws.Held.{held_read, held_first, held_second, held_via, held_then, seen_fit}
 use Rattle.date.specs.Date.{date}
 use Rattle.kind.specs.declared.Product.{Product}
 use Rattle.kind.specs.declared.Edition.{Edition}
@@ -56,133 +56,133 @@ Holds a s f v = Where a s 0 (λ d. Valued.Is (f d)) v
 module _ (s : List ℕ) (at : ℕ) {r : Read} {v m : ℕ} (bs : (i : ℕ) → Fits w8 (get_or s i 0)) where
   pub number_fits : (k : ℕ) → r ≡ seen itself (number k) s at → r ≡ Got m v → v < 256 ^ k
   unfolding number
-  number_fits k e h = seen-fit (number k) s at (bytes-all s bs) e h
+  number_fits k e h = seen_fit (number k) s at (bytes_all s bs) e h
 
-  pub date-fits : r ≡ seen itself date s at → r ≡ Got m v → accepted v ≡ true
+  pub date_fits : r ≡ seen itself date s at → r ≡ Got m v → accepted v ≡ true
   unfolding date judged
-  date-fits e h = (seen-fit date s at (bytes-all s bs) e h).1
+  date_fits e h = (seen_fit date s at (bytes_all s bs) e h).1
 
 -- ---- the fields of sound data
 
 -- a field is not there, so no data are
-pub holds-none : {B : Type 0} (g : B → ℕ) (b : Format B) (a : Format Data) (s : List ℕ) (at : ℕ) (f : Data → Value) (v : Valued) {r : Read} {c : Fault} {q : ℕ}
+pub holds_none : {B : Type 0} (g : B → ℕ) (b : Format B) (a : Format Data) (s : List ℕ) (at : ℕ) (f : Data → Value) (v : Valued) {r : Read} {c : Fault} {q : ℕ}
     → ((d : Data) → Held a s 0 d → (y : B) × Held b s at y) → r ≡ seen g b s at → r ≡ No q c → Holds a s f v
 unfolding Where
-holds-none g b a s at f v part e h d x = back-no g b s at (part d x).1.1 e h
+holds_none g b a s at f v part e h d x = back_no g b s at (part d x).1.1 e h
 
 -- how long the fields are, whatever they hold
-one_zero-long : 8 ≡ 0 + length (one_zero.write tt)
+one_zero_long : 8 ≡ 0 + length (one_zero.write tt)
 unfolding one_zero fixed ◌then◌ seq pair pair_write via judged number spelt
-one_zero-long = refl
+one_zero_long = refl
 
-number-long : (at n : ℕ) → at + 4 ≡ at + length ((number 4).write n)
+number_long : (at n : ℕ) → at + 4 ≡ at + length ((number 4).write n)
 unfolding number spelt
-number-long at n = refl
+number_long at n = refl
 
-flag-long : (at : ℕ) (b : Bool) → at + 4 ≡ at + length (flag.write b)
+flag_long : (at : ℕ) (b : Bool) → at + 4 ≡ at + length (flag.write b)
 unfolding flag via judged number spelt
-flag-long at b = refl
+flag_long at b = refl
 
-zero-long : (at : ℕ) → at + 4 ≡ at + length ((fixed 4 0 Fault.Field).write tt)
+zero_long : (at : ℕ) → at + 4 ≡ at + length ((fixed 4 0 Fault.Field).write tt)
 unfolding fixed via judged number spelt
-zero-long at = refl
+zero_long at = refl
 
-limit-long : (at : ℕ) (l : Limit) → at + 16 ≡ at + length (limit.write l)
+limit_long : (at : ℕ) (l : Limit) → at + 16 ≡ at + length (limit.write l)
 unfolding limit flag fixed date ◌then◌ seq pair pair_write via judged number spelt
-limit-long at l = refl
+limit_long at l = refl
 
 -- one end of a date span: 16 bytes, the flag and the date
 limit_parts : (s : List ℕ) (at : ℕ) {l : Limit} → Held limit s at l → Held flag s at l.set × Held date s (at + 8) l.at
 unfolding limit seq
 limit_parts s at {l} h =
-    let z = held-second flag (λ b. fixed 4 0 Fault.Field then date) s at (at + 4) (held-via _ _ _ _ s at h) (flag-long at l.set) in
-    (held_first _ _ s at (held-via _ _ _ _ s at h), held_then _ date s (at + 4) (at + 8) z (omega (arith, zero-long (at + 4))))
+    let z = held_second flag (λ b. fixed 4 0 Fault.Field then date) s at (at + 4) (held_via _ _ _ _ s at h) (flag_long at l.set) in
+    (held_first _ _ s at (held_via _ _ _ _ s at h), held_then _ date s (at + 4) (at + 8) z (omega (arith, zero_long (at + 4))))
 
 module _ (s : List ℕ) (d : Data) where
-  pub words-number : Held word_data s 0 d → Held (number 4) s 0 (length (words_of d))
-  words-number h = (list_parts s 0 d h.0 h.1).0
+  pub words_number : Held word_data s 0 d → Held (number 4) s 0 (length (words_of d))
+  words_number h = (list_parts s 0 d h.0 h.1).0
 
-  pub sizes-numbers : Held size_data s 0 d → Held (number 4) s 8 (sizes_of d).0 × Held (number 4) s 12 (sizes_of d).1
+  pub sizes_numbers : Held size_data s 0 d → Held (number 4) s 8 (sizes_of d).0 × Held (number 4) s 12 (sizes_of d).1
   unfolding size_data seq
-  sizes-numbers h =
-      let g = held_then one_zero _ s 0 8 (held-via _ _ _ _ s 0 h) one_zero-long in
-      (held_first _ _ s 8 g, held-second _ _ s 8 12 g (number-long 8 (sizes_of d).0))
+  sizes_numbers h =
+      let g = held_then one_zero _ s 0 8 (held_via _ _ _ _ s 0 h) one_zero_long in
+      (held_first _ _ s 8 g, held_second _ _ s 8 12 g (number_long 8 (sizes_of d).0))
 
   span_limits : Held date_data s 0 d → Held limit s 8 (span_of d).0 × Held limit s 24 (span_of d).1
   unfolding date_data seq
   span_limits h =
-      let g = held_then one_zero _ s 0 8 (held-via _ _ _ _ s 0 h) one_zero-long in
-      (held_first _ _ s 8 g, held-second _ _ s 8 24 g (limit-long 8 (span_of d).0))
+      let g = held_then one_zero _ s 0 8 (held_via _ _ _ _ s 0 h) one_zero_long in
+      (held_first _ _ s 8 g, held_second _ _ s 8 24 g (limit_long 8 (span_of d).0))
 
-  pub span-starts : Held date_data s 0 d → Held flag s 8 (span_of d).0.set × Held date s 16 (span_of d).0.at
-  span-starts h = limit_parts s 8 (span_limits h).0
+  pub span_starts : Held date_data s 0 d → Held flag s 8 (span_of d).0.set × Held date s 16 (span_of d).0.at
+  span_starts h = limit_parts s 8 (span_limits h).0
 
-  pub span-ends : Held date_data s 0 d → Held flag s 24 (span_of d).1.set × Held date s 32 (span_of d).1.at
-  span-ends h = limit_parts s 24 (span_limits h).1
+  pub span_ends : Held date_data s 0 d → Held flag s 24 (span_of d).1.set × Held date s 32 (span_of d).1.at
+  span_ends h = limit_parts s 24 (span_limits h).1
 
 -- ---- as the code reads them
 
 module _ (s : List ℕ) {r : Read} {v m : ℕ} where
   number_is : (at : ℕ) {x : ℕ} → Held (number 4) s at x → r ≡ seen itself (number 4) s at → r ≡ Got m v → v ≡ x
-  number_is at x e h = (back-got itself (number 4) s at x.1 e h).0
+  number_is at x e h = (back_got itself (number 4) s at x.1 e h).0
 
   flag_is : (at : ℕ) {b : Bool} → Held flag s at b → r ≡ seen bit flag s at → r ≡ Got m v → eqb v 1 ≡ b
-  flag_is at {b} x e h = ap (λ (n : ℕ). eqb n 1) (back-got bit flag s at x.1 e h).0 ∙ eqb-bit b
+  flag_is at {b} x e h = ap (λ (n : ℕ). eqb n 1) (back_got bit flag s at x.1 e h).0 ∙ eqb_bit b
 
-  date-is : (at : ℕ) {x : ℕ} → Held date s at x → r ≡ seen itself date s at → r ≡ Got m v → of_bits binary64 v ≡ of_bits binary64 x
-  date-is at x e h = ap (of_bits binary64) (back-got itself date s at x.1 e h).0
+  date_is : (at : ℕ) {x : ℕ} → Held date s at x → r ≡ seen itself date s at → r ≡ Got m v → of_bits binary64 v ≡ of_bits binary64 x
+  date_is at x e h = ap (of_bits binary64) (back_got itself date s at x.1 e h).0
 
 module _ (s : List ℕ) {r : Read} {v m : ℕ} where
   pub words_are : r ≡ seen itself (number 4) s 0 → r ≡ Got m v → Holds word_data s (λ d. Value.Words (length (words_of d))) (Valued.Is (Value.Words v))
   unfolding Where
-  words_are e h d x = ap (λ (n : ℕ). Valued.Is (Value.Words n)) (number_is s 0 (words-number s d x) e h)
+  words_are e h d x = ap (λ (n : ℕ). Valued.Is (Value.Words n)) (number_is s 0 (words_number s d x) e h)
 
-  pub sizes-are : {q : Read} {w l : ℕ} → r ≡ seen itself (number 4) s 8 → r ≡ Got m v → q ≡ seen itself (number 4) s 12 → q ≡ Got l w
+  pub sizes_are : {q : Read} {w l : ℕ} → r ≡ seen itself (number 4) s 8 → r ≡ Got m v → q ≡ seen itself (number 4) s 12 → q ≡ Got l w
       → Holds size_data s (λ d. Value.Size (sizes_of d).0 (sizes_of d).1) (Valued.Is (Value.Size v w))
   unfolding Where
-  sizes-are e h f k d x = let p = sizes-numbers s d x in ap₂ (λ (a b : ℕ). Valued.Is (Value.Size a b)) (number_is s 8 p.0 e h) (number_is s 12 p.1 f k)
+  sizes_are e h f k d x = let p = sizes_numbers s d x in ap₂ (λ (a b : ℕ). Valued.Is (Value.Size a b)) (number_is s 8 p.0 e h) (number_is s 12 p.1 f k)
 
-pub span-is : (s : List ℕ) {f a g b : Read} {starts after ends before i j k l : ℕ} → f ≡ seen bit flag s 8 → f ≡ Got i starts → a ≡ seen itself date s 16 → a ≡ Got j after
+pub span_is : (s : List ℕ) {f a g b : Read} {starts after ends before i j k l : ℕ} → f ≡ seen bit flag s 8 → f ≡ Got i starts → a ≡ seen itself date s 16 → a ≡ Got j after
     → g ≡ seen bit flag s 24 → g ≡ Got k ends → b ≡ seen itself date s 32 → b ≡ Got l before
     → Holds date_data s (λ d. Value.Dates (floats (span_of d))) (Valued.Is (Value.Dates (record { starts = eqb starts 1; ends = eqb ends 1; after = of_bits binary64 after; before = of_bits binary64 before })))
 unfolding Where
-span-is s ef hf ea ha eg hg eb hb d x =
-    let p = span-starts s d x in
-    let q = span-ends s d x in
-    rw (flag_is s 8 p.0 ef hf, date-is s 16 p.1 ea ha, flag_is s 24 q.0 eg hg, date-is s 32 q.1 eb hb)
+span_is s ef hf ea ha eg hg eb hb d x =
+    let p = span_starts s d x in
+    let q = span_ends s d x in
+    rw (flag_is s 8 p.0 ef hf, date_is s 16 p.1 ea ha, flag_is s 24 q.0 eg hg, date_is s 32 q.1 eb hb)
 
 -- a value that is in the kind, whatever its data
-pub value-plain : (a : Format Data) (s : List ℕ) (v : Value) → Holds a s (λ d. v) (Valued.Is v)
+pub value_plain : (a : Format Data) (s : List ℕ) (v : Value) → Holds a s (λ d. v) (Valued.Is v)
 unfolding Where
-value-plain a s v d x = refl
+value_plain a s v d x = refl
 
-pub value-by : (k j : Kind) (id : ℕ) (s : List ℕ) (out : Valued) → k ≡ j → Holds (data_of j) s (value_in j id) out → Holds (data_of k) s (value_in k id) out
-value-by k j id s out e o = rw e o
+pub value_by_lem : (k j : Kind) (id : ℕ) (s : List ℕ) (out : Valued) → k ≡ j → Holds (data_of j) s (value_in j id) out → Holds (data_of k) s (value_in k id) out
+value_by_lem k j id s out e o = rw e o
 
 -- ---- lone data, as the code judges them
 
 module _ (k : Kind) (id : ℕ) (s : List ℕ) {r : Read} {x : Valued} {q : ℕ} where
-  pub value-no : {c : Fault} → r ≡ seen none (data_of k) s 0 → r ≡ No q c → x ≡ as_given r → x ≡ from_kind k id s
+  pub value_no : {c : Fault} → r ≡ seen none (data_of k) s 0 → r ≡ No q c → x ≡ as_given r → x ≡ from_kind k id s
   unfolding from_kind seen whole
-  value-no {c} e h o =
-      let i = told-no 0 none ((data_of k).read s) e h in
+  value_no {c} e h o =
+      let i = told_no 0 none ((data_of k).read s) e h in
       let z : q ≡ i.o = omega (arith, i.ends) in
       o ∙ ap as_given h ∙ ap (Valued.Given c) z ∙ ap (λ (a : Answer Data). from_data k id (whole (length s) a)) (sym i.is)
 
   module _ {v : ℕ} where
-    pub value-over : r ≡ seen none (data_of k) s 0 → r ≡ Got q v → (q ≡ length s → ⊥) → x ≡ Valued.Given Fault.Over q → x ≡ from_kind k id s
+    pub value_over : r ≡ seen none (data_of k) s 0 → r ≡ Got q v → (q ≡ length s → ⊥) → x ≡ Valued.Given Fault.Over q → x ≡ from_kind k id s
     unfolding from_kind seen whole pick
-    value-over e h w o =
-        let i = told-got 0 none ((data_of k).read s) e h in
+    value_over e h w o =
+        let i = told_got 0 none ((data_of k).read s) e h in
         let z : i.n ≡ q = omega (arith, i.ends) in
         o ∙ rw (i.is, z, ne_eqb q (length s) w)
 
-    pub value-is : ((i : ℕ) → Fits w8 (get_or s i 0)) → r ≡ seen none (data_of k) s 0 → r ≡ Got q v → q ≡ length s → Holds (data_of k) s (value_in k id) x → x ≡ from_kind k id s
+    pub value_is : ((i : ℕ) → Fits w8 (get_or s i 0)) → r ≡ seen none (data_of k) s 0 → r ≡ Got q v → q ≡ length s → Holds (data_of k) s (value_in k id) x → x ≡ from_kind k id s
     unfolding from_kind seen whole pick Where
-    value-is bs e h w o =
-        let i = told-got 0 none ((data_of k).read s) e h in
+    value_is bs e h w o =
+        let i = told_got 0 none ((data_of k).read s) e h in
         let z : i.n ≡ length s = omega (arith, i.ends) in
-        rw (i.is, eq-eqb i.n (length s) z) (o i.x (held-read (data_of k) s 0 (bytes-all s bs) i.is))
+        rw (i.is, eq-eqb i.n (length s) z) (o i.x (held_read (data_of k) s 0 (bytes_all s bs) i.is))
 
 -- what is answered, and what that says
 abbrev pub Valuing : ℕ → ℕ → List ℕ → Valued → Type 0
@@ -202,7 +202,7 @@ module _ (edition id : ℕ) (s : List ℕ) {e : Edition} where
     unfolding value_of
     value_off f h g w o = valuing edition id s (o ∙ ap off_by w ∙ rw (← f, h, ← g, w))
 
-    pub value-of : {k : Kind} {out : Valued} → e ≡ edition_of edition → e ≡ Edition.Of p → r ≡ row_of p id → r ≡ Row.Is k
+    pub value_of_lem : {k : Kind} {out : Valued} → e ≡ edition_of edition → e ≡ Edition.Of p → r ≡ row_of p id → r ≡ Row.Is k
         → out ≡ from_kind k id s → Valuing edition id s out
     unfolding value_of
-    value-of f h g w o = valuing edition id s (rw (← f, h, ← g, w) o)
+    value_of_lem f h g w o = valuing edition id s (rw (← f, h, ← g, w) o)

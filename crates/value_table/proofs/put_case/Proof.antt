@@ -1,14 +1,14 @@
 use mathlib.Core.Path.{sym, ap}
 use Rattle.value.specs.declared.Value.{Value}
 use Rattle.value.specs.Value.{value_case}
-use Rattle.value.specs.Laws.Dates.{dated-is}
+use Rattle.value.specs.Laws.Dates.{dated_is}
 use Rattle.lent.specs.Laws.Lent.{told, lent_as}
 use borrow.Author.Rules.{rules}
 use Rattle.value_table.proofs.put_case.Statement.{statement}
 use Rattle.value_table.proofs.put_case.Tie as tie
 
 put-span-requires : tie.Need-put-span-requires
-put-span-requires c κs = dated-is c.before.before.before.before.before.requires c.before.before.v3.given.1
+put-span-requires c κs = dated_is c.before.before.before.before.before.requires c.before.before.v3.given.1
 
 returns : tie.Need-returns
 returns c = lent_as _ _ _ c.before.before.put-numbers.ensures (ap (λ (v : Value). told (value_case v)) (sym c.before.before.before.before.before.enum_told.given.1))

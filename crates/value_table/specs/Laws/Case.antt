@@ -8,5 +8,5 @@ use Rattle.value.specs.declared.Value.TheVariants as Value
 use Rattle.value.specs.Value.{value_case}
 use Rattle.lent.specs.Laws.Lent.{told}
 
-pub span-row : (v : Span) {f g : ℕ} → f ≡ bit v.starts → g ≡ bit v.ends → told (3 ∷ f ∷ g ∷ to_bits binary64 v.after ∷ to_bits binary64 v.before ∷ []) ≡ told (value_case (Value.Dates v))
-span-row v e h = rw (e, h)
+pub span_row : (v : Span) {f g : ℕ} → f ≡ bit v.starts → g ≡ bit v.ends → told (3 ∷ f ∷ g ∷ to_bits binary64 v.after ∷ to_bits binary64 v.before ∷ []) ≡ told (value_case (Value.Dates v))
+span_row v e h = rw (e, h)

@@ -1,4 +1,4 @@
-use Rattle.vectors.proofs.Parts.{taken-most}
+use Rattle.vectors.proofs.Parts.{taken_most}
 use native.Mathlib.Omega.{arith}
 use mathlib.Core.Path.{sym}
 use lib.Seq.{length-take-le}
@@ -10,7 +10,7 @@ slice-aggregate-fill-into : tie.Need-slice-aggregate-fill-into
 slice-aggregate-fill-into c = sym (length-take-le _ _ (omega arith))
 
 fill-into-requires : tie.Need-fill-into-requires
-fill-into-requires c κs = taken-most c.before.before.room.result _ _ (omega arith)
+fill-into-requires c κs = taken_most c.before.before.room.result _ _ (omega arith)
 
 pub call-fill-spec : {M : Type 1} → statement M
 call-fill-spec =

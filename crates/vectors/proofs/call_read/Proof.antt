@@ -1,4 +1,4 @@
-use Rattle.vectors.proofs.Parts.{taken-most}
+use Rattle.vectors.proofs.Parts.{taken_most}
 use native.Mathlib.Omega.{arith}
 use mathlib.Core.Path.{sym}
 use lib.Seq.{length-take-le}
@@ -13,7 +13,7 @@ slice-aggregate-read-into-2 : tie.Need-slice-aggregate-read-into-2
 slice-aggregate-read-into-2 c = sym (length-take-le _ _ (omega arith))
 
 read-into-requires : tie.Need-read-into-requires
-read-into-requires c κs = (taken-most c.before.before.before.before.before.args.m _ _ (omega arith), taken-most c.before.before.before.before.before.args.n _ _ (omega arith))
+read-into-requires c κs = (taken_most c.before.before.before.before.before.args.m _ _ (omega arith), taken_most c.before.before.before.before.before.args.n _ _ (omega arith))
 
 pub call-read-spec : {M : Type 1} → statement M
 call-read-spec =

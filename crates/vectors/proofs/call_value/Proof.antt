@@ -1,4 +1,4 @@
-use Rattle.vectors.proofs.Parts.{taken-most}
+use Rattle.vectors.proofs.Parts.{taken_most}
 use native.Mathlib.Omega.{arith}
 use mathlib.Core.Path.{sym}
 use lib.Seq.{length-take-le}
@@ -10,7 +10,7 @@ slice-aggregate-value-into : tie.Need-slice-aggregate-value-into
 slice-aggregate-value-into c = sym (length-take-le _ _ (omega arith))
 
 value-into-requires : tie.Need-value-into-requires
-value-into-requires c κs = taken-most c.before.before.room.result _ _ (omega arith)
+value-into-requires c κs = taken_most c.before.before.room.result _ _ (omega arith)
 
 pub call-value-spec : {M : Type 1} → statement M
 call-value-spec =

@@ -1,4 +1,4 @@
-use Rattle.vectors.proofs.Parts.{taken-most}
+use Rattle.vectors.proofs.Parts.{taken_most}
 use native.Mathlib.Omega.{arith}
 use mathlib.Core.Path.{sym}
 use lib.Seq.{length-take-le}
@@ -10,7 +10,7 @@ slice-aggregate-put-given : tie.Need-slice-aggregate-put-given
 slice-aggregate-put-given c = sym (length-take-le _ _ (omega arith))
 
 put-given-requires : tie.Need-put-given-requires
-put-given-requires c κs = taken-most c.before.before.given-count.result _ _ (omega arith)
+put-given-requires c κs = taken_most c.before.before.given-count.result _ _ (omega arith)
 
 pub put-value-spec : {M : Type 1} → statement M
 put-value-spec =

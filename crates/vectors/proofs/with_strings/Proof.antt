@@ -1,4 +1,4 @@
-use Rattle.vectors.proofs.Parts.{taken-most}
+use Rattle.vectors.proofs.Parts.{taken_most}
 use native.Mathlib.Omega.{arith}
 use mathlib.Core.Path.{sym}
 use lib.Seq.{length-take-le}
@@ -16,7 +16,7 @@ slice-aggregate-judge-3 : tie.Need-slice-aggregate-judge-3
 slice-aggregate-judge-3 c = sym (length-take-le _ _ (omega arith))
 
 judge-requires : tie.Need-judge-requires
-judge-requires c κs = (omega arith, taken-most c.before.before.before.before.before.before.before.before.before.before.unpack-if.result.count _ _ (omega arith))
+judge-requires c κs = (omega arith, taken_most c.before.before.before.before.before.before.before.before.before.before.unpack-if.result.count _ _ (omega arith))
 
 pub with-strings-spec : {M : Type 1} → statement M
 with-strings-spec =

@@ -12,7 +12,7 @@ use Rattle.text.specs.declared.Form.TheVariants.{Short}
 use Rattle.text.specs.declared.StringRead.{StringRead}
 use Rattle.text.specs.declared.StringRead.TheVariants as StringRead
 use Rattle.text.specs.Text.{Text, string, units_from}
-use Rattle.text.specs.Laws.Written.{string-long}
+use Rattle.text.specs.Laws.Written.{string_long}
 use Rattle.view.specs.declared.View.{View}
 use Rattle.view.specs.declared.View.TheVariants.{At, No}
 use Rattle.view.specs.View.{text_view, shown, shown_from, PartOf, view_says}
@@ -36,50 +36,50 @@ units_of len (StringRead.Got e form n) = pick (leb e len) (pick (leb (2 * n) e) 
 units_of len (StringRead.No q c) = No c q
 
 module _ (len : ℕ) {t : StringRead} where
-  pub units-none : {v : View} {c : Fault} {q : ℕ} → t ≡ StringRead.No q c → v ≡ No c q → v ≡ units_of len t
+  pub units_none : {v : View} {c : Fault} {q : ℕ} → t ≡ StringRead.No q c → v ≡ No c q → v ≡ units_of len t
   unfolding units_of
-  units-none h i = rw h i
+  units_none h i = rw h i
 
   module _ {form : Form} {n e : ℕ} (h : t ≡ StringRead.Got e form n) where
-    pub units-past : len < e → No Fault.Cut 0 ≡ units_of len t
+    pub units_past : len < e → No Fault.Cut 0 ≡ units_of len t
     unfolding units_of pick
-    units-past l = rw (h, lt-leb e len l)
+    units_past l = rw (h, lt-leb e len l)
 
     pub units_odd : e ≤ len → e < 2 * n → No Fault.Cut 0 ≡ units_of len t
     unfolding units_of pick
     units_odd k l = rw (h, le-leb e len k, lt-leb (2 * n) e l)
 
-    pub units-are : e ≤ len → 2 * n ≤ e → At (e - 2 * n) (2 * n) form ≡ units_of len t
+    pub units_are : e ≤ len → 2 * n ≤ e → At (e - 2 * n) (2 * n) form ≡ units_of len t
     unfolding units_of pick
-    units-are k l = rw (h, le-leb e len k, le-leb (2 * n) e l)
+    units_are k l = rw (h, le-leb e len k, le-leb (2 * n) e l)
 
   -- the units of a String that starts at q
   pub units_of_lem : {v : View} (q : ℕ) (x : Text) → v ≡ units_of len t → t ≡ StringRead.Got (q + length (string.write x)) x.form (length x.units) → q + length (string.write x) ≤ len
       → v ≡ text_view q x
   units_of_lem q x w e l =
-      let m = string-long x in
+      let m = string_long x in
       let z : q + length (string.write x) - 2 * length x.units ≡ units_from q x = omega arith in
-      w ∙ sym (units-are e l (omega arith)) ∙ ap (λ (a : ℕ). At a (2 * length x.units) x.form) z
+      w ∙ sym (units_are e l (omega arith)) ∙ ap (λ (a : ℕ). At a (2 * length x.units) x.form) z
 
-pub units-inside : (len : ℕ) (t : StringRead) {v : View} → v ≡ units_of len t → Inside v len
+pub units_inside : (len : ℕ) (t : StringRead) {v : View} → v ≡ units_of len t → Inside v len
 unfolding units_of pick
-units-inside len (StringRead.Got e form n) w = rw w (go (leb e len) refl (leb (2 * n) e) refl)
+units_inside len (StringRead.Got e form n) w = rw w (go (leb e len) refl (leb (2 * n) e) refl)
   where
     go : (x : Bool) → leb e len ≡ x → (y : Bool) → leb (2 * n) e ≡ y → Inside (pick x (pick y (At (e - 2 * n) (2 * n) form) (No Fault.Cut 0)) (No Fault.Cut 0)) len
     go true f true g = let h = leb-true e len f in let i = leb-true (2 * n) e g in omega arith
     go true f false g = tt
     go false f y g = tt
-units-inside len (StringRead.No q c) w = rw w tt
+units_inside len (StringRead.No q c) w = rw w tt
 
 -- a view that lies within a slice; else it is refused
 unfoldable pub within : ℕ → View → View
 within len (At a n form) = pick (leb (a + n) len) (At a n form) (No Fault.Cut 0)
 within len (No c q) = No c q
 
-pub within-is : (len : ℕ) (v : View) → Inside v len → within len v ≡ v
+pub within_is : (len : ℕ) (v : View) → Inside v len → within len v ≡ v
 unfolding within pick
-within-is len (At a n form) i = rw (le-leb (a + n) len i)
-within-is len (No c q) i = refl
+within_is len (At a n form) i = rw (le-leb (a + n) len i)
+within_is len (No c q) i = refl
 
 -- as the code judges it
 module _ (len : ℕ) {v : View} where
@@ -88,22 +88,22 @@ module _ (len : ℕ) {v : View} where
   within_none h = rw h
 
   module _ {a n : ℕ} {form : Form} (h : v ≡ At a n form) where
-    pub within-past : len < a + n → within len v ≡ No Fault.Cut 0
+    pub within_past : len < a + n → within len v ≡ No Fault.Cut 0
     unfolding within pick
-    within-past l = rw (h, lt-leb (a + n) len l)
+    within_past l = rw (h, lt-leb (a + n) len l)
 
-    pub within-at : a + n ≤ len → within len v ≡ At a n form
+    pub within_at : a + n ≤ len → within len v ≡ At a n form
     unfolding within pick
-    within-at l = rw (h, le-leb (a + n) len l)
+    within_at l = rw (h, le-leb (a + n) len l)
 
 -- a refusal handed on
 pub view_hands : {o : Outcome} {v : View} {c : Fault} {q : ℕ} → o ≡ Outcome.No c q → v ≡ no_view o → v ≡ No c q
 unfolding no_view
 view_hands e f = f ∙ ap no_view e
 
-pub no-inside : (len : ℕ) (o : Outcome) {v : View} → v ≡ no_view o → Inside v len
+pub no_inside : (len : ℕ) (o : Outcome) {v : View} → v ≡ no_view o → Inside v len
 unfolding no_view
-no-inside len o e = rw e (go o)
+no_inside len o e = rw e (go o)
   where
     go : (o : Outcome) → Inside (no_view o) len
     go (Outcome.Done n) = omega arith
@@ -111,23 +111,23 @@ no-inside len o e = rw e (go o)
     go (Outcome.Given c q) = tt
 
 -- what a view that was found tells
-pub inside-at : {v : View} {a n : ℕ} {form : Form} (len : ℕ) → Inside v len → v ≡ At a n form → a + n ≤ len
-inside-at len i e = rw e at i
+pub inside_at : {v : View} {a n : ℕ} {form : Form} (len : ℕ) → Inside v len → v ≡ At a n form → a + n ≤ len
+inside_at len i e = rw e at i
 
-pub shown-at : {v : View} {a n : ℕ} {form : Form} (s : List ℕ) → v ≡ At a n form → take (a + n - a) (drop a s) ≡ shown v s
-shown-at {a = a} {n = n} s h = let z : a + n - a ≡ n = omega arith in rw z (ap (λ (x : View). shown x s) (sym h))
+pub shown_at : {v : View} {a n : ℕ} {form : Form} (s : List ℕ) → v ≡ At a n form → take (a + n - a) (drop a s) ≡ shown v s
+shown_at {a = a} {n = n} s h = let z : a + n - a ≡ n = omega arith in rw z (ap (λ (x : View). shown x s) (sym h))
 
-pub shown-no : {v : View} {c : Fault} {q : ℕ} (s : List ℕ) → v ≡ No c q → [] ≡ shown v s
-shown-no s h = ap (λ (x : View). shown x s) (sym h)
+pub shown_no : {v : View} {c : Fault} {q : ℕ} (s : List ℕ) → v ≡ No c q → [] ≡ shown v s
+shown_no s h = ap (λ (x : View). shown x s) (sym h)
 
 pub from_at : {v : View} {a n : ℕ} {form : Form} (b o : ℕ) → v ≡ At a n form → ◌≡◌ {A = ℕ × ℕ} (b, a + o) (b, shown_from v + o)
 from_at b o h = ap (λ (x : View). (b, shown_from x + o)) (sym h)
 
-pub from-no : {v : View} {c : Fault} {q : ℕ} (b o : ℕ) → v ≡ No c q → ◌≡◌ {A = ℕ × ℕ} (b, o) (b, shown_from v + o)
-from-no b o h = rw (h, zero-add)
+pub from_no : {v : View} {c : Fault} {q : ℕ} (b o : ℕ) → v ≡ No c q → ◌≡◌ {A = ℕ × ℕ} (b, o) (b, shown_from v + o)
+from_no b o h = rw (h, zero-add)
 
 pub part_none : {v : View} {c : Fault} {q : ℕ} (xs : List ℕ) (at : ℕ × ℕ) {ys : List ℕ} {from : ℕ × ℕ} → v ≡ No c q → ys ≡ [] → from ≡ at → PartOf v xs at ys from
-part_none xs at h e f = (e ∙ shown-no xs h, f ∙ from-no at.0 at.1 h)
+part_none xs at h e f = (e ∙ shown_no xs h, f ∙ from_no at.0 at.1 h)
 
 -- and what is asked of it
 pub part_as : {v w : View} (xs : List ℕ) (at : ℕ × ℕ) {ys : List ℕ} {from : ℕ × ℕ} → PartOf v xs at ys from → v ≡ w → PartOf w xs at ys from
@@ -136,8 +136,8 @@ part_as xs at h e = rw e at h
 pub placed_at : {v : View} {a n : ℕ} {form : Form} → v ≡ At a n form → Outcome.Done a ≡ view_says v
 placed_at h = ap view_says (sym h)
 
-pub placed-no : {v : View} {c : Fault} {q : ℕ} → v ≡ No c q → Outcome.No c q ≡ view_says v
-placed-no h = ap view_says (sym h)
+pub placed_no : {v : View} {c : Fault} {q : ℕ} → v ≡ No c q → Outcome.No c q ≡ view_says v
+placed_no h = ap view_says (sym h)
 
 pub placed_as : {v w : View} {r : Outcome} → r ≡ view_says v → v ≡ w → r ≡ view_says w
 placed_as h e = h ∙ ap view_says e

@@ -7,25 +7,25 @@ use Rattle.std.proofs.Math.ListN.{length}
 use Rattle.format.specs.declared.Fault.{Fault}
 use Rattle.format.specs.declared.Read.{Read}
 use Rattle.format.specs.declared.Read.TheVariants.{Got, No}
-use Rattle.format.specs.Laws.ReadWrite.{length-spelt}
+use Rattle.format.specs.Laws.ReadWrite.{length_spelt}
 use Rattle.format.specs.Combinators.{number}
-use Rattle.format.specs.Laws.Seen.{seen, itself, none, unlike, got-at}
+use Rattle.format.specs.Laws.Seen.{seen, itself, none, unlike, got_at}
 use Rattle.format.specs.Laws.Written.{Stands, Held}
-use Rattle.format.specs.Laws.Back.{Where, stands-seen, stands-room, back-got, back-no}
+use Rattle.format.specs.Laws.Back.{Where, stands_seen, stands_room, back_got, back_no}
 use Rattle.format.specs.Row.{start_in}
-use Rattle.format.specs.Laws.Skip.{Skipped, skip_is, skip-never, nth}
+use Rattle.format.specs.Laws.Skip.{Skipped, skip_is, skip_never, nth}
 use Rattle.kind.specs.declared.Product.{Product}
 use Rattle.kind.specs.declared.Kind.{Kind}
 use Rattle.kind.specs.declared.Row.{Row}
 use Rattle.kind.specs.declared.Row.TheVariants as Row
 use Rattle.kind.specs.Kinds.{kinds, row_in, row_of}
-use Rattle.kind.specs.Laws.Kinds.{offered-is}
+use Rattle.kind.specs.Laws.Kinds.{offered_is}
 use Rattle.element.specs.Data.{Data, data_of}
 use Rattle.element.specs.Element.{Element}
 use Rattle.rule.specs.Rule.{Rule, rule, body, head, placed, elements_in}
 use Rattle.rule.specs.Places.{elements_at, data_at}
-use Rattle.rule.specs.Laws.Places.{body_parts, behind-count, rule_parts, rule-elements, placed_parts, data-first, data-later}
-use Rattle.steps.specs.Laws.Steps.{name_read, name_end, name-end, name-never}
+use Rattle.rule.specs.Laws.Places.{body_parts, behind_count, rule_parts, rule_elements, placed_parts, data_first, data_later}
+use Rattle.steps.specs.Laws.Steps.{name_read, name_end, name_end_lem, name_never}
 use Rattle.walk.specs.Elements.{of_first, of_element}
 
 -- ---- the number of elements and where they start
@@ -37,18 +37,18 @@ Counts s at i r = (p : Product) → Where (body p i) s at (λ xs. Got (at + 2 + 
 module _ (s : List ℕ) (at i : ℕ) {c : Read} (e : c ≡ seen itself (number 2) s at) where
   pub counts_cut : (r : Read) {f : Fault} {q : ℕ} → c ≡ No q f → Counts s at i r
   unfolding Counts Where
-  counts_cut r h p xs b = back-no itself (number 2) s at (body_parts p i s at xs b.0 b.1).many.1 e h
+  counts_cut r h p xs b = back_no itself (number 2) s at (body_parts p i s at xs b.0 b.1).many.1 e h
 
   module _ {n m : ℕ} (h : c ≡ Got m n) {d : Read} (g : d ≡ seen none (head i) s m) where
     pub counts_off : (r : Read) {f : Fault} {q : ℕ} → d ≡ No q f → Counts s at i r
     unfolding Counts Where
-    counts_off r k p xs b = back-no none (head i) s m (behind-count p i s at (body_parts p i s at xs b.0 b.1) e h).1.1.1 g k
+    counts_off r k p xs b = back_no none (head i) s m (behind_count p i s at (body_parts p i s at xs b.0 b.1) e h).1.1.1 g k
 
-    pub counts-is : {v q : ℕ} → d ≡ Got q v → Counts s at i (Got q n)
+    pub counts_is : {v q : ℕ} → d ≡ Got q v → Counts s at i (Got q n)
     unfolding Counts Where
-    counts-is k p xs b =
-        let z = behind-count p i s at (body_parts p i s at xs b.0 b.1) e h in
-        let y = (back-got none (head i) s m z.1.1.1 g k).1 in
+    counts_is k p xs b =
+        let z = behind_count p i s at (body_parts p i s at xs b.0 b.1) e h in
+        let y = (back_got none (head i) s m z.1.1.1 g k).1 in
         rw (z.0, y, z.1.0)
 
 -- from its start
@@ -57,20 +57,20 @@ Elements s at i r = (p : Product) → Where (rule p i) s at (λ x. Got (elements
 
 pub elements_unnamed : (s : List ℕ) (at i : ℕ) (r : Read) {t : Read} {c : Fault} {q : ℕ} → t ≡ name_read s at → t ≡ No q c → Elements s at i r
 unfolding Elements Where
-elements_unnamed s at i r f h p x b = name-never s at f h p i x b
+elements_unnamed s at i r f h p x b = name_never s at f h p i x b
 
 -- e is where its name ends
 module _ (s : List ℕ) (at i : ℕ) (r : Read) {e : ℕ} (n : e ≡ name_end s at) where
-  pub elements-short : length s - e < 24 → Elements s at i r
+  pub elements_short : length s - e < 24 → Elements s at i r
   unfolding Elements Where
-  elements-short l p x b = absurd (omega (arith, n, name-end s at p i x b, stands-room (rule p i) s at b.1, (rule_parts p i s at x b.0 b.1).ends))
+  elements_short l p x b = absurd (omega (arith, n, name_end_lem s at p i x b, stands_room (rule p i) s at b.1, (rule_parts p i s at x b.0 b.1).ends))
 
-  pub elements-go : Counts s (e + 24) i r → Elements s at i r
+  pub elements_go : Counts s (e + 24) i r → Elements s at i r
   unfolding Elements Counts Where
-  elements-go k p x b =
+  elements_go k p x b =
       let y = rule_parts p i s at x b.0 b.1 in
-      let z = n ∙ name-end s at p i x b in
-      k p x.elements (b.0, rw z y.bodied) ∙ got-at (ap (λ (m : ℕ). m + 24 + 2 + length ((head i).write tt)) z ∙ y.begins)
+      let z = n ∙ name_end_lem s at p i x b in
+      k p x.elements (b.0, rw z y.bodied) ∙ got_at (ap (λ (m : ℕ). m + 24 + 2 + length ((head i).write tt)) z ∙ y.begins)
 
 -- ---- an element: its identifier and where its data start
 
@@ -84,19 +84,19 @@ module _ (s : List ℕ) (at j : ℕ) where
       let y = placed_parts p j s at x b.0 b.1 in
       let o : data_at j at - 4 ≡ q = omega arith in
       let i : Held (number 4) s q x.0 = rw o at y.identified in
-      e ∙ stands-seen itself (number 4) s q i.1 ∙ got-at (ap (λ (m : ℕ). q + m) (length-spelt 4 x.0) ∙ z)
+      e ∙ stands_seen itself (number 4) s q i.1 ∙ got_at (ap (λ (m : ℕ). q + m) (length_spelt 4 x.0) ∙ z)
 
-  pub identified-first : {r : Read} → j ≡ 0 → r ≡ seen itself (number 4) s at → Identifies s at j r
-  identified-first h = identified at (data-first j at h)
+  pub identified_first : {r : Read} → j ≡ 0 → r ≡ seen itself (number 4) s at → Identifies s at j r
+  identified_first h = identified at (data_first j at h)
 
-  pub identified-later : {r : Read} → (j ≡ 0 → ⊥) → r ≡ seen itself (number 4) s (at + 2) → Identifies s at j r
-  identified-later h = identified (at + 2) (let z = data-later j at h in omega arith)
+  pub identified_later : {r : Read} → (j ≡ 0 → ⊥) → r ≡ seen itself (number 4) s (at + 2) → Identifies s at j r
+  identified_later h = identified (at + 2) (let z = data_later j at h in omega arith)
 
   pub identified_cut : (r : Read) → (j ≡ 0 → ⊥) → length s - at < 2 → Identifies s at j r
   unfolding Identifies Where number
   identified_cut r h l p x b =
       let y = placed_parts p j s at x b.0 b.1 in
-      absurd (omega (arith, data-later j at h, stands-room (number 4) s (data_at j at - 4) y.identified.1, length-spelt 4 x.0))
+      absurd (omega (arith, data_later j at h, stands_room (number 4) s (data_at j at - 4) y.identified.1, length_spelt 4 x.0))
 
 -- ---- what is told of an element's data
 
@@ -119,45 +119,45 @@ module _ {W : Type 0} (p : Product) (s : List ℕ) (at j : ℕ) (f : ℕ → Dat
     told x b = let z : Got q id ≡ Got (data_at j at) x.0 = sym h ∙ i p x b in ((cc), (cc))
 
     -- its identifier has a row, and its data are of that kind
-    pub carries-none : {c : Fault} {a : ℕ} → o ≡ Row.No c a → Carries p s at j f v
+    pub carries_none : {c : Fault} {a : ℕ} → o ≡ Row.No c a → Carries p s at j f v
     unfolding Carries Where
-    carries-none {c} {a} e x b =
+    carries_none {c} {a} e x b =
         let z : row_of p x.0 ≡ Row.No c a = rw (told x b).0 at (sym g ∙ e) in
         let y = (placed_parts p j s at x b.0 b.1).offers in
         absurd (let u : ◌≡◌ {A = ℕ} 0 1 = cc in omega arith)
 
-    pub carries-is : {k : Kind} → o ≡ Row.Is k → Where (data_of k) s q (f q) v → Carries p s at j f v
+    pub carries_is : {k : Kind} → o ≡ Row.Is k → Where (data_of k) s q (f q) v → Carries p s at j f v
     unfolding Carries Where row_of
-    carries-is {k} e m x b =
+    carries_is {k} e m x b =
         let t = told x b in
         let y = (placed_parts p j s at x b.0 b.1).carries in
-        let z : row_in kinds x.0 ≡ Row.Is k = rw t.0 at (offered-is p (row_in kinds id) (sym g ∙ e)) in
+        let z : row_in kinds x.0 ≡ Row.Is k = rw t.0 at (offered_is p (row_in kinds id) (sym g ∙ e)) in
         let d : Stands (data_of k) s (data_at j at) x.1 b.0 = rw z at y in
         (rw t.1 at m) x.1 (b.0, d)
 
 -- of a rule that stands at a place
 module _ (p : Product) (s : List ℕ) (at k : ℕ) (x : Rule) (b : Held (rule p k) s at x) {c : Read} (i : Elements s at k c) where
-  pub elements-none : {B : Type 0} {f : Fault} {q : ℕ} → c ≡ No q f → B
+  pub elements_none : {B : Type 0} {f : Fault} {q : ℕ} → c ≡ No q f → B
   unfolding Elements Where
-  elements-none h = unlike (i p x b) h
+  elements_none h = unlike (i p x b) h
 
   module _ {n q : ℕ} (h : c ≡ Got q n) where
-    pub elements-are : (n ≡ elements_in x) × (q ≡ elements_at p k at x)
+    pub elements_are : (n ≡ elements_in x) × (q ≡ elements_at p k at x)
     unfolding Elements Where
-    elements-are = let z : Got q n ≡ Got (elements_at p k at x) (elements_in x) = sym h ∙ i p x b in ((cc), (cc))
+    elements_are = let z : Got q n ≡ Got (elements_at p k at x) (elements_in x) = sym h ∙ i p x b in ((cc), (cc))
 
     -- element e starts where z tells
     module _ (e : ℕ) (z : Read) (l : e < n) (g : Skipped (placed p) s q e e z) where
       skips : Skipped (placed p) s (elements_at p k at x) e e z
-      skips = rw elements-are.1 at g
+      skips = rw elements_are.1 at g
 
-      pub element-never : {B : Type 0} {f : Fault} {o : ℕ} → z ≡ No o f → B
-      element-never j = skip-never (placed p) s (elements_at p k at x) e e skips x.elements b.0 (rule-elements p k s at x b.0 b.1) (omega (arith, elements-are.0)) j
+      pub element_never : {B : Type 0} {f : Fault} {o : ℕ} → z ≡ No o f → B
+      element_never j = skip_never (placed p) s (elements_at p k at x) e e skips x.elements b.0 (rule_elements p k s at x b.0 b.1) (omega (arith, elements_are.0)) j
 
-      pub of-element : {W : Type 0} {u o : ℕ} (absent : W) (f : ℕ → Data → W) (v : W) → z ≡ Got o u → Carries p s o e f v → v ≡ of_element absent f p k e at x
+      pub of_element_lem : {W : Type 0} {u o : ℕ} (absent : W) (f : ℕ → Data → W) (v : W) → z ≡ Got o u → Carries p s o e f v → v ≡ of_element absent f p k e at x
       unfolding Carries Where
-      of-element {o = o} absent f v j m =
-          let t = elements-are.0 in
-          let row = rule-elements p k s at x b.0 b.1 in
+      of_element_lem {o = o} absent f v j m =
+          let t = elements_are.0 in
+          let row = rule_elements p k s at x b.0 b.1 in
           let y = nth (placed p) s (elements_at p k at x) e o x.elements b.0 (skip_is (placed p) s (elements_at p k at x) e e skips x.elements b.0 row (omega arith) j) row (omega arith) in
           m y.x (y.tail, y.stands) ∙ ap (λ (a : ℕ). f (data_at e a) y.x.1) y.starts ∙ ap (of_first absent f e (start_in (placed p) (elements_at p k at x) x.elements e)) (sym y.whole)

@@ -1,14 +1,14 @@
 use native.Mathlib.Omega.{arith}
-use Rattle.format.specs.Laws.Seen.{number_is, number-no}
+use Rattle.format.specs.Laws.Seen.{number_is, number_no}
 use borrow.Author.Rules.{rules}
 use Rattle.wire.proofs.u8_at.Statement.{statement}
 use Rattle.wire.proofs.u8_at.Tie as tie
 
 returns : tie.Need-returns
-returns c = number-no _ _ _ (omega arith)
+returns c = number_no _ _ _ (omega arith)
 
 returns-2 : tie.Need-returns-2
-returns-2 c = number-no _ _ _ (omega arith)
+returns-2 c = number_no _ _ _ (omega arith)
 
 returns-3 : tie.Need-returns-3
 returns-3 c = number_is _ _ _ c.one.ensures.0 (omega arith)

@@ -1,6 +1,6 @@
-use Rattle.plan.specs.Laws.Found.{edit_unknown, edit-no, edit-made, found_within}
+use Rattle.plan.specs.Laws.Found.{edit_unknown, edit_no, edit_made, found_within}
 use Rattle.locate.specs.Laws.Located.{last_of}
-use Rattle.format.specs.Laws.Format.{bytes-all}
+use Rattle.format.specs.Laws.Format.{bytes_all}
 use borrow.Author.Rules.{rules}
 use Rattle.word.proofs.add_word.Statement.{statement}
 use Rattle.word.proofs.add_word.Tie as tie
@@ -9,13 +9,13 @@ returns : tie.Need-returns
 returns c = edit_unknown _ _ _ _ c.before.before.edition-of.ensures c.enum_told.given.1
 
 returns-2 : tie.Need-returns-2
-returns-2 c = edit-no _ _ _ _ _ c.before.before.before.find-last.ensures c.before.enum-told2.given.1 c.spot-says.ensures
+returns-2 c = edit_no _ _ _ _ _ c.before.before.before.find-last.ensures c.before.enum-told2.given.1 c.spot-says.ensures
 
 word-in-requires : tie.Need-word-in-requires
-word-in-requires c κs = found_within last_of _ _ _ (bytes-all c.before.before.before.before.before.before.before.before.before.before.before.before.args.buf.now c.before.before.before.before.before.before.before.before.before.before.before.slice-known.given) c.before.before.before.before.find-last.ensures c.before.before.f.given.1
+word-in-requires c κs = found_within last_of _ _ _ (bytes_all c.before.before.before.before.before.before.before.before.before.before.before.before.args.buf.now c.before.before.before.before.before.before.before.before.before.before.before.slice-known.given) c.before.before.before.before.find-last.ensures c.before.before.f.given.1
 
 returns-3 : tie.Need-returns-3
-returns-3 c = edit-made _ _ _ _ _ (bytes-all c.before.before.before.before.before.before.before.before.before.before.before.before.before.before.before.args.buf.now c.before.before.before.before.before.before.before.before.before.before.before.before.before.before.slice-known.given) c.before.before.before.before.before.before.before.find-last.ensures c.before.before.before.before.before.f.given.1 c.before.before.before.before.before.before.before.before.before.before.before.before.edition-of.ensures c.before.before.before.before.before.before.before.before.before.before.o.given.1 c.before.before.word_in.ensures
+returns-3 c = edit_made _ _ _ _ _ (bytes_all c.before.before.before.before.before.before.before.before.before.before.before.before.before.before.before.args.buf.now c.before.before.before.before.before.before.before.before.before.before.before.before.before.before.slice-known.given) c.before.before.before.before.before.before.before.find-last.ensures c.before.before.before.before.before.f.given.1 c.before.before.before.before.before.before.before.before.before.before.before.before.edition-of.ensures c.before.before.before.before.before.before.before.before.before.before.o.given.1 c.before.before.word_in.ensures
 
 pub add-word-spec : {M : Type 1} → statement M
 add-word-spec =

@@ -1,17 +1,17 @@
-use Rattle.walk.specs.Laws.Elements.{carries_cut, carries-none, carries-is}
-use Rattle.view.specs.Laws.View.{no-inside}
+use Rattle.walk.specs.Laws.Elements.{carries_cut, carries_none, carries_is}
+use Rattle.view.specs.Laws.View.{no_inside}
 use borrow.Author.Rules.{rules}
 use Rattle.word_view.proofs.element_word.Statement.{statement}
 use Rattle.word_view.proofs.element_word.Tie as tie
 
 returns : tie.Need-returns
-returns c = (search (rules, carries_cut), no-inside _ _ c.no-view.ensures)
+returns c = (search (rules, carries_cut), no_inside _ _ c.no-view.ensures)
 
 returns-2 : tie.Need-returns-2
-returns-2 c = (search (rules, carries-none), no-inside _ _ c.no-view2.ensures)
+returns-2 c = (search (rules, carries_none), no_inside _ _ c.no-view2.ensures)
 
 returns-3 : tie.Need-returns-3
-returns-3 c = (search (rules, carries-is), c.data-word.ensures.1)
+returns-3 c = (search (rules, carries_is), c.data-word.ensures.1)
 
 pub element-word-spec : {M : Type 1} → statement M
 element-word-spec =

@@ -15,7 +15,7 @@ use Rattle.kind.specs.declared.Product.{Product}
 use Rattle.element.specs.Element.{Element}
 use Rattle.rule.specs.Rule.{rule, placed}
 use Rattle.rule.specs.Places.{elements_at}
-use Rattle.walk.specs.Laws.Elements.{Elements, Carries, elements-none, elements-are, element-never, of-element}
+use Rattle.walk.specs.Laws.Elements.{Elements, Carries, elements_none, elements_are, element_never, of_element_lem}
 use Rattle.walk.specs.Elements.{of_first}
 use Rattle.view.specs.declared.View.{View}
 use Rattle.view.specs.declared.View.TheVariants.{No}
@@ -29,20 +29,20 @@ element_word e w at xs = of_first (No Fault.Absent 1) (data_word w) e at xs
 module _ (p : Product) (s : List ℕ) (at k e w : ℕ) {c : Read} (i : Elements s at k c) where
   pub rule_cut : (v : View) {f : Fault} {q : ℕ} → c ≡ Read.No q f → Where (rule p k) s at (rule_word k e w p at) v
   unfolding Where
-  rule_cut v h x b = elements-none p s at k x b i h
+  rule_cut v h x b = elements_none p s at k x b i h
 
   module _ {n q : ℕ} (h : c ≡ Read.Got q n) where
-    pub rule-short : n ≤ e → Where (rule p k) s at (rule_word k e w p at) (No Fault.Absent 1)
+    pub rule_short : n ≤ e → Where (rule p k) s at (rule_word k e w p at) (No Fault.Absent 1)
     unfolding Where
-    rule-short l x b =
-        let d : drop e x.elements ≡ [] = drop_of_length-le x.elements {i = e} (omega (arith, (elements-are p s at k x b i h).0)) in
+    rule_short l x b =
+        let d : drop e x.elements ≡ [] = drop_of_length-le x.elements {i = e} (omega (arith, (elements_are p s at k x b i h).0)) in
         ap (element_word e w (start_in (placed p) (elements_at p k at x) x.elements e)) (sym d)
 
     -- z is what was told of the element's start
-    pub rule-never : (v : View) {z : Read} {f : Fault} {o : ℕ} → e < n → Skipped (placed p) s q e e z → z ≡ Read.No o f → Where (rule p k) s at (rule_word k e w p at) v
+    pub rule_never : (v : View) {z : Read} {f : Fault} {o : ℕ} → e < n → Skipped (placed p) s q e e z → z ≡ Read.No o f → Where (rule p k) s at (rule_word k e w p at) v
     unfolding Where
-    rule-never v l g j x b = element-never p s at k x b i h e _ l g j
+    rule_never v l g j x b = element_never p s at k x b i h e _ l g j
 
-    pub rule-is : (v : View) {z : Read} {u o : ℕ} → e < n → Skipped (placed p) s q e e z → z ≡ Read.Got o u → Carries p s o e (data_word w) v → Where (rule p k) s at (rule_word k e w p at) v
+    pub rule_is : (v : View) {z : Read} {u o : ℕ} → e < n → Skipped (placed p) s q e e z → z ≡ Read.Got o u → Carries p s o e (data_word w) v → Where (rule p k) s at (rule_word k e w p at) v
     unfolding Where
-    rule-is v l g j m x b = of-element p s at k x b i h e _ l g (No Fault.Absent 1) (data_word w) v j m
+    rule_is v l g j m x b = of_element_lem p s at k x b i h e _ l g (No Fault.Absent 1) (data_word w) v j m
