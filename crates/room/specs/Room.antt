@@ -2,7 +2,6 @@
 use Rattle.std.specs.Prelude.{ℕ, leb}
 use Rattle.format.specs.declared.Fault.TheVariants as Fault
 use Rattle.format.specs.declared.Outcome.{Outcome}
-use Rattle.format.specs.declared.Outcome.TheVariants as Outcome
 use Rattle.format.specs.Format.{pick}
 
 -- "18, 19, 20": over 256 rules, over 60,000 bytes, longer than the buffer; else its length

@@ -8,7 +8,6 @@ use Rattle.std.proofs.Math.Path.{refl, ap}
 use Rattle.std.proofs.Math.Seq.{drop-drop}
 use borrow.Author.Tests.{eq-eqb, ne_eqb}
 use Rattle.format.specs.declared.Fault.{Fault}
-use Rattle.format.specs.declared.Fault.TheVariants as Fault
 use Rattle.format.specs.declared.Read.{Read}
 use Rattle.format.specs.declared.Read.TheVariants.{Got, No}
 use Rattle.format.specs.Format.{Answer, got, refused, shift, mapped, and_then, pick, Bytes, Format}
@@ -22,7 +21,6 @@ use Rattle.format.specs.Laws.Rows.{row_length, number_row, row_no}
 use Rattle.text.specs.declared.Form.{Form}
 use Rattle.text.specs.declared.Form.TheVariants.{Short, Long}
 use Rattle.text.specs.declared.StringRead.{StringRead}
-use Rattle.text.specs.declared.StringRead.TheVariants as StringRead
 use Rattle.text.specs.Length.{Length, long_length, length_behind}
 use Rattle.text.specs.Text.{Text, length_of, string_length, string_of, word_of}
 use Rattle.text.specs.Laws.Written.{length_most}

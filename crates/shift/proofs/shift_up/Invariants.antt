@@ -1,0 +1,11 @@
+use Prim.Native.Nat.{◌+◌, ◌-◌, ◌≤◌}
+use mathlib.Core.Path.{◌≡◌}
+use lib.ListN.{length}
+use Rattle.buffer.proofs.Loops.{lifted}
+use Rattle.shift.proofs.shift_up.Given as goal
+
+abbrev pub invariant-loop-to : goal.invariant-loop-to
+invariant-loop-to l = (l.p ≡ lifted l.initial.p l.by l.to) × ((length l.p ≡ length l.initial.p) × ((l.to ≤ length l.initial.p) × (l.by ≤ l.to + (l.by - length l.initial.p))))
+
+abbrev pub decreases-loop-to : goal.decreases-loop-to
+decreases-loop-to l = l.to
