@@ -5,7 +5,7 @@ ghost use Rattle.std.specs.Prelude.{◌≡◌, ◌<◌};
 ghost use Rattle.civil.specs.Calendar.{leap, month_days, year_days, Valid, day_of};
 ghost use Rattle.civil.specs.Laws.Steps.{row, Years, Months};
 
-#[derive(Drop)]
+#[derive(Clone, Copy)]
 pub struct Civil {
     pub year: u64,
     pub month: u64,
@@ -53,7 +53,7 @@ fn year_days(y: u64) -> u64
     365 + row_of(y) as u64
 }
 
-#[derive(Drop)]
+#[derive(Clone, Copy)]
 struct Split {
     whole: u64,
     left: u64,

@@ -6,7 +6,6 @@ use Rattle.format.specs.Combinators.{via, seq, ◌then◌, number, count, fixed,
 use Rattle.text.specs.Text.{word, Text}
 use Rattle.date.specs.Date.{date}
 use Rattle.kind.specs.declared.Kind.{Kind}
-use Rattle.kind.specs.declared.Kind.TheVariants as Kind
 
 -- one end of a date span: whether it counts, and its date
 pub record Limit : Type 0 where

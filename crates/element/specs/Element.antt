@@ -1,7 +1,6 @@
 -- An element: document 01, "The deck"; source document 001, section 2.3.1.
 use Rattle.std.specs.Prelude.{ℕ, Bool, true, false}
 use Rattle.format.specs.declared.Fault.{Fault}
-use Rattle.format.specs.declared.Fault.TheVariants as Fault
 use Rattle.format.specs.Format.{Format}
 use Rattle.format.specs.Combinators.{pair, judged, number}
 use Rattle.kind.specs.declared.Product.{Product}

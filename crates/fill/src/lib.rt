@@ -29,7 +29,7 @@ fn put_row(t: &mut [u32], at: usize, row: &[u32])
 // What follows goes over a deck that was accepted; its bounds only keep sums from wrapping.
 
 // A rule as its rows go by it: where it starts in the deck, its number, and where its elements' rows start in their table.
-#[derive(Drop)]
+#[derive(Clone, Copy)]
 struct Entry {
     start: usize,
     i: u64,

@@ -11,7 +11,7 @@ use rule::Fields;
 use scan::Scan;
 
 // What the fixed fields of a rule are answered as.
-#[derive(Drop)]
+#[derive(Clone, Copy)]
 pub enum Fielded {
     Is(Fields),
     No(Fault, usize),

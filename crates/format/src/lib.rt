@@ -7,7 +7,7 @@ ghost use Rattle.format.specs.Laws.Fault.{row_number, end_says, no_read, in_give
 ghost use Rattle.format.specs.Laws.Seen.{told_nothing};
 
 // The rows of document 01's table "Numbers a refusal gives"; specs/Fault.antt has their numbers.
-#[derive(Drop)]
+#[derive(Clone, Copy)]
 pub enum Fault {
     Edition,
     Long,
@@ -35,7 +35,7 @@ pub enum Fault {
 }
 
 // The place past a value, and the value; or the place of a fault, and the fault.
-#[derive(Drop)]
+#[derive(Clone, Copy)]
 pub enum Read {
     Got(usize, u64),
     No(usize, Fault),
@@ -43,7 +43,7 @@ pub enum Read {
 
 // What a call answers: done, with a place or a number as document 01 says; a fault with its place; or the same
 // fault in a second deck or in given element data.
-#[derive(Drop)]
+#[derive(Clone, Copy)]
 pub enum Outcome {
     Done(usize),
     No(Fault, usize),

@@ -6,27 +6,27 @@ ghost use Rattle.kind.specs.Kinds.{edition_of, kind_says};
 
 use format::{Fault, Outcome};
 
-#[derive(Drop)]
+#[derive(Clone, Copy)]
 pub enum Product {
     Desk,
     Studio,
 }
 
 // What the number of an edition answers.
-#[derive(Drop)]
+#[derive(Clone, Copy)]
 pub enum Edition {
     Of(Product),
     Unknown,
 }
 
-#[derive(Drop)]
+#[derive(Clone, Copy)]
 pub enum Role {
     Condition,
     Action,
     Exception,
 }
 
-#[derive(Drop)]
+#[derive(Clone, Copy)]
 pub enum Kind {
     Marker,
     Simple(Role),
@@ -36,7 +36,7 @@ pub enum Kind {
 }
 
 // What an identifier answers: its row of the kinds, or a fault with its place.
-#[derive(Drop)]
+#[derive(Clone, Copy)]
 pub enum Row {
     Is(Kind),
     No(Fault, usize),

@@ -9,7 +9,7 @@ use civil::Civil;
 use format::Fault;
 
 // A civil date and the second of its day, or a fault and its place.
-#[derive(Drop)]
+#[derive(Clone, Copy)]
 pub enum Moment {
     At(Civil, u64),
     No(Fault, usize),

@@ -1,7 +1,6 @@
 -- A rule: document 01, "The deck"; source document 001, sections 2.2.10 and 2.3.
 use Rattle.std.specs.Prelude.{ℕ, refl, Bool, List, [], ◌∷◌, length, eqb}
 use Rattle.format.specs.declared.Fault.{Fault}
-use Rattle.format.specs.declared.Fault.TheVariants as Fault
 use Rattle.format.specs.Format.{Format, pick}
 use Rattle.format.specs.Combinators.{via, seq, ◌then◌, number, count, fixed, bytes, flag, each, counted, sized}
 use Rattle.format.specs.Laws.Combinators.{then_fit, each_long}

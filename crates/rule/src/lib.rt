@@ -11,7 +11,7 @@ use format::{Fault, Read};
 use kind::Product;
 
 // The fixed fields of a rule; the signature is with Unknown1.
-#[derive(Drop)]
+#[derive(Clone, Copy)]
 pub struct Fields {
     pub signature: u32,
     pub on: bool,

@@ -2,7 +2,6 @@
 use Rattle.format.specs.declared.Outcome.{Outcome}
 use Rattle.format.specs.declared.Outcome.TheVariants.{Done, No}
 use Rattle.scan.specs.declared.Scan.{Scan}
-use Rattle.scan.specs.declared.Scan.TheVariants as Scan
 
 -- the answer as document 01 has it
 abbrev pub scan_says : Scan → Outcome

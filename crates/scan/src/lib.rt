@@ -8,7 +8,7 @@ ghost use Rattle.scan.specs.Laws.Scan.{no_scan};
 use format::{Fault, Outcome};
 
 // What a pass over a deck tells: its version, where the rules start, their number and that of their elements; or a fault with its place.
-#[derive(Drop)]
+#[derive(Clone, Copy)]
 pub enum Scan {
     Is(u64, usize, u64, u64),
     No(Fault, usize),

@@ -8,7 +8,7 @@ use format::{Fault, Outcome};
 
 // What was found of a deck: its bytes, its version, the number of its rules, where the first of them starts, where the rule that was
 // asked for starts and where it ends; past the last rule both are the end of the deck.
-#[derive(Drop)]
+#[derive(Clone, Copy)]
 pub struct Site {
     pub bytes: usize,
     pub version: u64,
@@ -18,7 +18,7 @@ pub struct Site {
     pub end: usize,
 }
 
-#[derive(Drop)]
+#[derive(Clone, Copy)]
 pub enum Spot {
     Is(Site),
     No(Fault, usize),

@@ -11,14 +11,14 @@ ghost use Rattle.text.specs.Laws.Written.{length_size};
 use format::{Fault, Read};
 
 // The forms of a String: its length is one byte, or FF and two.
-#[derive(Drop)]
+#[derive(Clone, Copy)]
 pub enum Form {
     Short,
     Long,
 }
 
 // The place past a String, its form and the number of its units; or the place of a fault, and the fault.
-#[derive(Drop)]
+#[derive(Clone, Copy)]
 pub enum StringRead {
     Got(usize, Form, u64),
     No(usize, Fault),

@@ -3,22 +3,17 @@ use Rattle.std.specs.Prelude.{ℕ, List, [], ◌∷◌, length}
 use Rattle.std.specs.Float.{binary64}
 use Rattle.std.specs.Float.Ieee.{of_bits, to_bits}
 use Rattle.format.specs.declared.Fault.{Fault}
-use Rattle.format.specs.declared.Fault.TheVariants as Fault
 use Rattle.format.specs.declared.Outcome.TheVariants as Outcome
 use Rattle.format.specs.Fault.{Said}
 use Rattle.format.specs.ReadWrite.{bit}
 use Rattle.format.specs.Format.{Answer, got, refused, whole}
 use Rattle.kind.specs.declared.Edition.{Edition}
-use Rattle.kind.specs.declared.Edition.TheVariants as Edition
 use Rattle.kind.specs.declared.Kind.{Kind}
-use Rattle.kind.specs.declared.Kind.TheVariants as Kind
 use Rattle.kind.specs.declared.Row.{Row}
-use Rattle.kind.specs.declared.Row.TheVariants as Row
 use Rattle.kind.specs.Kinds.{edition_of, row_of}
 use Rattle.element.specs.Data.{Data, Limit, words_of, sizes_of, span_of, data_of}
 use Rattle.value.specs.declared.Span.{Span}
 use Rattle.value.specs.declared.Value.{Value}
-use Rattle.value.specs.declared.Value.TheVariants as Value
 use Rattle.value.specs.declared.Valued.{Valued}
 use Rattle.value.specs.declared.Valued.TheVariants.{Is, No, Given}
 

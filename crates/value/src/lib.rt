@@ -11,7 +11,7 @@ use format::{Fault, Read};
 use kind::{Edition, Kind, Row};
 
 // A date span: whether the after date counts and whether the before date does, and the two dates.
-#[derive(Drop)]
+#[derive(Clone, Copy)]
 pub struct Span {
     pub starts: bool,
     pub ends: bool,
@@ -19,7 +19,7 @@ pub struct Span {
     pub before: f64,
 }
 
-#[derive(Drop)]
+#[derive(Clone, Copy)]
 pub enum Value {
     Marker,
     Simple(u32),
@@ -29,7 +29,7 @@ pub enum Value {
 }
 
 // What lone data answer: a value, a fault of the call, or a fault in the data.
-#[derive(Drop)]
+#[derive(Clone, Copy)]
 pub enum Valued {
     Is(Value),
     No(Fault, usize),

@@ -123,7 +123,7 @@ fn op_size(v: &[u8], p: usize) -> usize
 }
 
 // Where a packed string ends, NOWHERE if it is malformed, and how many bytes it gave.
-#[derive(Drop)]
+#[derive(Clone, Copy)]
 struct Unpacked {
     end: usize,
     count: usize,
@@ -258,7 +258,7 @@ fn fits(v: &[u8]) -> bool {
 
 // The calls: each says what was answered and how many bytes its effect has, which it puts at the start of got.
 
-#[derive(Drop)]
+#[derive(Clone, Copy)]
 struct Said {
     code: u64,
     place: u64,
@@ -546,7 +546,7 @@ fn run(v: &[u8], given: &[u8], second: &[u8], third: &[u8], got: &mut [u8]) -> S
 // A vector, from behind its length on.
 
 // How it came out; where it differs, with the number and place that were answered.
-#[derive(Drop)]
+#[derive(Clone, Copy)]
 enum Ran {
     Agrees,
     Differs(u64, u64),

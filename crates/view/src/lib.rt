@@ -9,7 +9,7 @@ use format::{Fault, Outcome};
 use text::{Form, StringRead};
 
 // What a view answers: its first byte, how many bytes it is and the String's form; or a fault with its place.
-#[derive(Drop)]
+#[derive(Clone, Copy)]
 pub enum View {
     At(usize, usize, Form),
     No(Fault, usize),

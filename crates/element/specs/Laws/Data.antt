@@ -7,7 +7,6 @@ use Rattle.format.specs.Combinators.{via, judged, pair, number, count, each, cou
 use Rattle.format.specs.Laws.Written.{behind, Stands, Held, Row}
 use Rattle.text.specs.Text.{word, Text}
 use Rattle.kind.specs.declared.Kind.{Kind}
-use Rattle.kind.specs.declared.Kind.TheVariants as Kind
 use Rattle.element.specs.Data.{Data, of_words, words_of, marker_data, simple_data, word_data, size_data, date_data, data_of}
 
 -- ---- only a word list has words

@@ -10,13 +10,10 @@ use Rattle.date.specs.Double.{accepted}
 use Rattle.date.proofs.Floats.{bits_back, date_no_nan}
 use Rattle.kind.specs.declared.Kind.{Kind}
 use Rattle.kind.specs.declared.Edition.{Edition}
-use Rattle.kind.specs.declared.Edition.TheVariants as Edition
 use Rattle.kind.specs.declared.Row.{Row}
-use Rattle.kind.specs.declared.Row.TheVariants as Row
 use Rattle.kind.specs.Kinds.{edition_of, row_of}
 use Rattle.value.specs.declared.Span.{Span}
 use Rattle.value.specs.declared.Value.{Value}
-use Rattle.value.specs.declared.Value.TheVariants as Value
 use Rattle.put.specs.Plan.{from_span, is_of, plan_kind, plan_row, plan_edition, putting}
 use Rattle.put_table.specs.Table.{no_value, by_simple, by_size, by_dates, by_case, value_from}
 

@@ -4,7 +4,6 @@ use Rattle.std.proofs.Common.{arith, ◌∙◌, lit<, eq-eqb, ne_eqb}
 use Rattle.std.proofs.Math.Path.{sym}
 use Rattle.std.proofs.Math.Bool.{true, false}
 use Rattle.format.specs.declared.Fault.{Fault}
-use Rattle.format.specs.declared.Fault.TheVariants as Fault
 use Rattle.format.specs.declared.Read.{Read}
 use Rattle.format.specs.declared.Read.TheVariants.{Got, No}
 use Rattle.format.specs.Format.{Bytes, pick}

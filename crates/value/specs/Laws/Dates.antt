@@ -4,7 +4,6 @@ use Rattle.std.proofs.Common.{arith, ap, ◌∙◌}
 use Rattle.std.specs.Float.{binary64}
 use Rattle.std.specs.Float.Ieee.{of_bits, to_bits}
 use Rattle.format.specs.declared.Fault.{Fault}
-use Rattle.format.specs.declared.Fault.TheVariants as Fault
 use Rattle.format.specs.Format.{Answer, got, refused, Bytes, pick, whole}
 use Rattle.format.specs.Combinators.{pair, seq, judged, via, number}
 use Rattle.format.specs.Laws.Combinators.{then_fit}
@@ -12,18 +11,13 @@ use Rattle.date.specs.Double.{accepted}
 use Rattle.date.specs.Date.{date}
 use Rattle.date.proofs.Floats.{date_no_nan, bits_back}
 use Rattle.kind.specs.declared.Edition.{Edition}
-use Rattle.kind.specs.declared.Edition.TheVariants as Edition
 use Rattle.kind.specs.declared.Kind.{Kind}
-use Rattle.kind.specs.declared.Kind.TheVariants as Kind
 use Rattle.kind.specs.declared.Row.{Row}
-use Rattle.kind.specs.declared.Row.TheVariants as Row
 use Rattle.kind.specs.Kinds.{edition_of, row_of}
 use Rattle.element.specs.Data.{Data, Limit, span_of, limit, date_data, data_of}
 use Rattle.value.specs.declared.Span.{Span}
 use Rattle.value.specs.declared.Value.{Value}
-use Rattle.value.specs.declared.Value.TheVariants as Value
 use Rattle.value.specs.declared.Valued.{Valued}
-use Rattle.value.specs.declared.Valued.TheVariants as Valued
 use Rattle.value.specs.Value.{value_in, from_data, from_kind, from_row, from_edition, value_of}
 
 limit_fit : (l : Limit) → limit.Fit l → (l.at < 256 ^ 8) × (accepted l.at ≡ true)

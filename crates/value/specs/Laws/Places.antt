@@ -8,7 +8,6 @@ use Rattle.std.specs.Float.{binary64}
 use Rattle.std.specs.Float.Ieee.{of_bits}
 use Rattle.std.specs.Int.{w8}
 use Rattle.format.specs.declared.Fault.{Fault}
-use Rattle.format.specs.declared.Fault.TheVariants as Fault
 use Rattle.format.specs.declared.Read.{Read}
 use Rattle.format.specs.declared.Read.TheVariants.{Got, No}
 use Rattle.format.specs.Format.{Answer, Format, pick, whole}
@@ -21,7 +20,6 @@ use Rattle.date.specs.Double.{accepted}
 use Rattle.element.specs.Data.{Data, Limit, one_zero, limit, word_data, size_data, date_data, data_of, words_of, sizes_of, span_of}
 use Rattle.element.specs.Laws.Data.{list_parts}
 use Rattle.value.specs.declared.Valued.{Valued}
-use Rattle.value.specs.declared.Valued.TheVariants as Valued
 use Rattle.value.specs.Value.{floats, value_in, from_data, from_kind, value_of, value_says, value_answer}
 use Rattle.format.specs.Laws.Written.{Held}
 use Rattle.format.specs.Laws.Back.{Where, back_got, back_no}
@@ -29,13 +27,10 @@ use Rattle.value.specs.Laws.Held.{held_read, held_first, held_second, held_via, 
 use Rattle.date.specs.Date.{date}
 use Rattle.kind.specs.declared.Product.{Product}
 use Rattle.kind.specs.declared.Edition.{Edition}
-use Rattle.kind.specs.declared.Edition.TheVariants as Edition
 use Rattle.kind.specs.declared.Row.{Row}
-use Rattle.kind.specs.declared.Row.TheVariants as Row
 use Rattle.kind.specs.Kinds.{edition_of, row_of}
 use Rattle.kind.specs.declared.Kind.{Kind}
 use Rattle.value.specs.declared.Value.{Value}
-use Rattle.value.specs.declared.Value.TheVariants as Value
 
 -- the fault of a refused reading; of another, that bytes are left over behind it
 abbrev pub as_given : Read → Valued

@@ -1,0 +1,13 @@
+use native.Mathlib.Omega.{arith}
+use mathlib.Core.Path.{◌∙◌}
+use Rattle.buffer.specs.Laws.Laid.{put_in_lem}
+use Rattle.buffer.proofs.Parts.{put_tail}
+use Rattle.lent.specs.Laws.Lent.{lent_put}
+use borrow.Author.Rules.{rules}
+use Rattle.fill.proofs.put_row.Goals as goal
+
+pub returns-then-t-at : goal.returns-then-t-at
+returns-then-t-at c = λ h. absurd (omega arith)
+
+pub returns : goal.returns
+returns c = λ h. put_tail _ _ _ _ (lent_put _ _ _ c.put_row.ensures (omega arith)) h ∙ put_in_lem _ _ _ h
