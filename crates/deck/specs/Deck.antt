@@ -1,7 +1,6 @@
 -- The deck, and its reading whole: document 01, "The deck" and "Numbers a refusal gives".
 use Rattle.std.specs.Prelude.{ℕ, ◌+◌, ◌*◌, refl, List, [], ◌∷◌, length, leb, eqb}
 use Rattle.format.specs.declared.Fault.{Fault}
-use Rattle.format.specs.declared.Fault.TheVariants as Fault
 use Rattle.format.specs.declared.Outcome.{Outcome}
 use Rattle.format.specs.declared.Outcome.TheVariants.{Done, No}
 use Rattle.format.specs.Format.{Answer, got, refused, Format, pick, whole}
@@ -11,11 +10,9 @@ use Rattle.format.specs.Indexed.{indexed}
 use Rattle.format.specs.Row.{total}
 use Rattle.kind.specs.declared.Product.{Product}
 use Rattle.kind.specs.declared.Edition.{Edition}
-use Rattle.kind.specs.declared.Edition.TheVariants as Edition
 use Rattle.kind.specs.Kinds.{edition_of}
 use Rattle.rule.specs.Rule.{Rule, rule, elements_in}
 use Rattle.scan.specs.declared.Scan.{Scan}
-use Rattle.scan.specs.declared.Scan.TheVariants as Scan
 
 -- mark `RDK`
 unfoldable pub mark : List ℕ

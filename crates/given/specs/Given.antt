@@ -4,7 +4,6 @@ use Rattle.format.specs.Format.{Answer, refused, mapped, whole}
 use Rattle.text.specs.Text.{Text, shortest}
 use Rattle.kind.specs.declared.Product.{Product}
 use Rattle.kind.specs.declared.Row.{Row}
-use Rattle.kind.specs.declared.Row.TheVariants as Row
 use Rattle.kind.specs.Kinds.{row_of}
 use Rattle.element.specs.Data.{Data, data_of}
 use Rattle.element.specs.Element.{Element}

@@ -10,7 +10,6 @@ use Rattle.std.proofs.Math.Dec.{eqb}
 use Rattle.std.proofs.Math.Seq.{drop-length, drop-drop}
 use Rattle.std.proofs.lemmas.Bool.{lt-leb}
 use Rattle.format.specs.declared.Fault.{Fault}
-use Rattle.format.specs.declared.Fault.TheVariants as Fault
 use Rattle.format.specs.declared.Outcome.{Outcome}
 use Rattle.format.specs.declared.Outcome.TheVariants.{No}
 use Rattle.format.specs.Fault.{place_of}
@@ -24,19 +23,16 @@ use Rattle.format.specs.Index.{onward, values_read, indexed_read, index_write, i
 use Rattle.format.specs.Indexed.{indexed}
 use Rattle.format.specs.Laws.Indexed.{telling, offset_is, no_offset, offset_never, offset_is_lem, index_stop, index_start, values_done, values_off, values_stop, values_go, indexed_many}
 use Rattle.format.specs.declared.Read.{Read}
-use Rattle.format.specs.declared.Read.TheVariants as Read
 use Rattle.format.specs.Laws.Seen.{told, seen, itself, none, told_got, told_no, pair_stop, pair_go, via_is}
 use Rattle.format.specs.Laws.Back.{seen_fits, seen_ends}
 use Rattle.format.specs.Row.{total}
 use Rattle.format.specs.Laws.Rows.{added, added_none, added_twice, counted_is, row_there}
 use Rattle.kind.specs.declared.Product.{Product}
 use Rattle.kind.specs.declared.Edition.{Edition}
-use Rattle.kind.specs.declared.Edition.TheVariants as Edition
 use Rattle.kind.specs.Kinds.{edition_of}
 use Rattle.rule.specs.Rule.{Rule, rule, elements_in}
 use Rattle.rule.specs.Laws.Rule.{ComputingRules}
 use Rattle.scan.specs.declared.Scan.{Scan}
-use Rattle.scan.specs.declared.Scan.TheVariants as Scan
 use Rattle.scan.specs.Scan.{scan_says}
 use Rattle.scan.specs.Laws.Scan.{no_scan, scan_hands}
 use Rattle.deck.specs.Deck.{Deck, mark, version, rule_count, wide, rule_list, deck, base_of, read_as, read_by, read_deck, answered, scanned}

@@ -9,7 +9,6 @@ use Rattle.format.specs.ReadWrite.{pair_write, spelt}
 use Rattle.format.specs.Combinators.{pair, judged, via, seq, ◌then◌, number, fixed}
 use Rattle.kind.specs.declared.Product.{Product}
 use Rattle.kind.specs.declared.Row.{Row}
-use Rattle.kind.specs.declared.Row.TheVariants as Row
 use Rattle.kind.specs.Kinds.{kinds, row_in, row_of}
 use Rattle.kind.specs.Laws.Kinds.{offered_is}
 use Rattle.element.specs.Data.{data_of}

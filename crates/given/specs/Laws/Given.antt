@@ -6,16 +6,13 @@ use Rattle.std.proofs.Common.{◌∙◌, eq-eqb, ne_eqb}
 use Rattle.std.proofs.Math.Bool.{true, false}
 use Rattle.std.proofs.Math.Dec.{eqb}
 use Rattle.format.specs.declared.Fault.{Fault}
-use Rattle.format.specs.declared.Fault.TheVariants as Fault
 use Rattle.format.specs.declared.Outcome.{Outcome}
 use Rattle.format.specs.declared.Read.{Read}
-use Rattle.format.specs.declared.Read.TheVariants as Read
 use Rattle.format.specs.Laws.Fault.{no_read}
 use Rattle.format.specs.Format.{Answer, got, refused, mapped, whole, pick}
 use Rattle.format.specs.Laws.Seen.{told, seen, none, told_got, told_no}
 use Rattle.kind.specs.declared.Product.{Product}
 use Rattle.kind.specs.declared.Row.{Row}
-use Rattle.kind.specs.declared.Row.TheVariants as Row
 use Rattle.kind.specs.Kinds.{row_of, kind_says}
 use Rattle.kind.specs.declared.Kind.{Kind}
 use Rattle.element.specs.Data.{Data, data_of}

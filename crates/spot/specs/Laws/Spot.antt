@@ -1,6 +1,5 @@
 -- What a place says, and a refusal as that of a place.
 use Rattle.format.specs.declared.Outcome.{Outcome}
-use Rattle.format.specs.declared.Outcome.TheVariants as Outcome
 use Rattle.spot.specs.declared.Site.{Site}
 use Rattle.spot.specs.declared.Spot.{Spot}
 use Rattle.spot.specs.declared.Spot.TheVariants.{Is, No}
