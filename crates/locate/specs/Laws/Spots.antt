@@ -11,18 +11,15 @@ use Rattle.format.specs.Format.{Answer, got, refused, Bytes}
 use Rattle.format.specs.Laws.Back.{Where}
 use Rattle.kind.specs.declared.Product.{Product}
 use Rattle.kind.specs.declared.Edition.{Edition}
-use Rattle.kind.specs.declared.Edition.TheVariants as Edition
 use Rattle.kind.specs.Kinds.{edition_of}
 use Rattle.rule.specs.Rule.{Rule}
 use Rattle.rule.specs.Laws.Parts.{front, back, rule_is}
 use Rattle.scan.specs.declared.Scan.{Scan}
-use Rattle.scan.specs.declared.Scan.TheVariants as Scan
 use Rattle.scan.specs.Scan.{scan_says}
 use Rattle.deck.specs.Deck.{Deck, base_of, read_as, read_by, read_deck, scanned}
 use Rattle.deck.specs.Written.{deck_of, start_of}
 use Rattle.deck.specs.Laws.Deck.{read_writes_back}
 use Rattle.spot.specs.declared.Spot.{Spot}
-use Rattle.spot.specs.declared.Spot.TheVariants as Spot
 use Rattle.spot.specs.Laws.Spot.{no_spot}
 use Rattle.steps.specs.Laws.Steps.{Sound, sound_read, Here, here, here_at, Follows, follows_got, follows_never, start_past}
 use Rattle.steps.specs.Laws.Starts.{Starts, starts_is, starts_never}

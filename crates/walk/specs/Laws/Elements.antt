@@ -17,7 +17,6 @@ use Rattle.format.specs.Laws.Skip.{Skipped, skip_is, skip_never, nth}
 use Rattle.kind.specs.declared.Product.{Product}
 use Rattle.kind.specs.declared.Kind.{Kind}
 use Rattle.kind.specs.declared.Row.{Row}
-use Rattle.kind.specs.declared.Row.TheVariants as Row
 use Rattle.kind.specs.Kinds.{kinds, row_in, row_of}
 use Rattle.kind.specs.Laws.Kinds.{offered_is}
 use Rattle.element.specs.Data.{Data, data_of}

@@ -1,0 +1,10 @@
+use mathlib.Core.Path.{refl}
+use Rattle.plan.specs.Laws.Finish.{finish_two, finish_kept}
+use borrow.Author.Rules.{rules}
+use Rattle.plan.proofs.refresh.Goals as goal
+
+pub returns-then-f-eq2 : goal.returns-then-f-eq2
+returns-then-f-eq2 c = finish_two _ _ _ _ _ _ c.if-f-eq2.true c.reindex.ensures
+
+pub returns : goal.returns
+returns c = finish_kept _ _ _ _ c.if-f-eq2.false refl

@@ -1,0 +1,12 @@
+use Rattle.walk.specs.Laws.Elements.{counts_cut, counts_off, counts_is}
+use borrow.Author.Rules.{rules}
+use Rattle.walk.proofs.counted_at.Goals as goal
+
+pub returns-in_default : goal.returns-in_default
+returns-in_default c = search (rules, counts_cut)
+
+pub returns-in_default-h : goal.returns-in_default-h
+returns-in_default-h c = search (rules, counts_off)
+
+pub returns : goal.returns
+returns c = search (rules, counts_is)

@@ -1,0 +1,13 @@
+use native.Mathlib.Omega.{arith}
+use Rattle.walk.specs.Laws.Elements.{identified_first, identified_later, identified_cut}
+use borrow.Author.Rules.{rules}
+use Rattle.walk.proofs.identifier_at.Goals as goal
+
+pub returns-then-j-eq0 : goal.returns-then-j-eq0
+returns-then-j-eq0 c = search (rules, identified_first)
+
+pub returns-then-left-lt2 : goal.returns-then-left-lt2
+returns-then-left-lt2 c = identified_cut _ _ _ _ (search rules) (omega arith)
+
+pub returns : goal.returns
+returns c = search (rules, identified_later)
