@@ -1,11 +1,9 @@
 -- What is asked of rule k of a deck in an edition: document 01, "Tables and views".
 use Rattle.std.specs.Prelude.{ℕ, List, [], ◌∷◌, drop}
 use Rattle.format.specs.declared.Fault.{Fault}
-use Rattle.format.specs.declared.Fault.TheVariants as Fault
 use Rattle.format.specs.Format.{Answer, got, refused}
 use Rattle.kind.specs.declared.Product.{Product}
 use Rattle.kind.specs.declared.Edition.{Edition}
-use Rattle.kind.specs.declared.Edition.TheVariants as Edition
 use Rattle.kind.specs.Kinds.{edition_of}
 use Rattle.rule.specs.Rule.{Rule}
 use Rattle.deck.specs.Deck.{Deck, read_as}

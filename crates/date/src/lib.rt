@@ -17,11 +17,14 @@ pub fn in_range(days: f64) -> bool
     -657435.0 < days && days < 2958466.0
 }
 
+// The bits of infinity: above them, but for the sign, is what is no number.
+const INFINITY: u64 = 0x7FF0_0000_0000_0000;
+
 // Whether 64 bits are a date's. What is no number is tested before it is taken for one.
 pub fn is_date(bits: u64) -> bool
     ensures { result ≡ accepted bits }
 {
-    if bits % 0x8000_0000_0000_0000 > 0x7FF0_0000_0000_0000 {
+    if bits % 0x8000_0000_0000_0000 > INFINITY {
         return false;
     }
     in_range(f64::from_bits(bits))

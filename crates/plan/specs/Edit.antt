@@ -1,14 +1,11 @@
 -- An edit is a plan: the edited list of rules, or a refusal; a deck keeps its version. Document 01, "Edits and building".
 use Rattle.std.specs.Prelude.{ℕ, ◌-◌, max, Bool, List, [], ◌∷◌, ◌++◌, leb, ltb, length, take, drop, ◌≡◌}
 use Rattle.format.specs.declared.Fault.{Fault}
-use Rattle.format.specs.declared.Fault.TheVariants as Fault
 use Rattle.format.specs.declared.Outcome.{Outcome}
-use Rattle.format.specs.declared.Outcome.TheVariants as Outcome
 use Rattle.format.specs.Format.{Answer, got, refused, pick}
 use Rattle.text.specs.Text.{Text}
 use Rattle.kind.specs.declared.Product.{Product}
 use Rattle.kind.specs.declared.Edition.{Edition}
-use Rattle.kind.specs.declared.Edition.TheVariants as Edition
 use Rattle.kind.specs.Kinds.{edition_of}
 use Rattle.element.specs.Data.{plain, words, sizes, span}
 use Rattle.element.specs.Element.{Element}

@@ -7,7 +7,6 @@ use Rattle.format.specs.Format.{Answer, got, refused, pick}
 use Rattle.format.specs.Row.{total}
 use Rattle.kind.specs.declared.Product.{Product}
 use Rattle.kind.specs.declared.Edition.{Edition}
-use Rattle.kind.specs.declared.Edition.TheVariants as Edition
 use Rattle.rule.specs.Rule.{elements_in}
 use Rattle.deck.specs.Deck.{Deck, base_of, read_as}
 use Rattle.fill.specs.Rows.{rule_width, element_width, rule_rows, all_element_rows}

@@ -4,11 +4,8 @@ use Rattle.std.proofs.Common.{mod-eq_of_lt, arith, ap, ◌∙◌}
 use Rattle.std.proofs.Math.Path.{refl}
 use Rattle.std.proofs.Math.Dec.{eqb}
 use Rattle.format.specs.declared.Fault.{Fault}
-use Rattle.format.specs.declared.Fault.TheVariants as Fault
 use Rattle.format.specs.declared.Outcome.{Outcome}
-use Rattle.format.specs.declared.Outcome.TheVariants as Outcome
 use Rattle.format.specs.declared.Read.{Read}
-use Rattle.format.specs.declared.Read.TheVariants as Read
 use Rattle.format.specs.ReadWrite.{bit}
 use Rattle.format.specs.Laws.ReadWrite.{length_spelt, eqb_bit}
 use Rattle.format.specs.Combinators.{number}

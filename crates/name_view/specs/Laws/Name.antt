@@ -3,7 +3,6 @@ use Rattle.std.specs.Prelude.{ℕ, ◌+◌, ◌-◌, ◌<◌, ◌≡◌, List, l
 use Rattle.std.proofs.Common.{arith}
 use Rattle.format.specs.declared.Fault.{Fault}
 use Rattle.format.specs.declared.Read.{Read}
-use Rattle.format.specs.declared.Read.TheVariants as Read
 use Rattle.format.specs.Laws.Back.{Where, stands_room}
 use Rattle.text.specs.declared.StringRead.{StringRead}
 use Rattle.text.specs.Text.{length_of, string}

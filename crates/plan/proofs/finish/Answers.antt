@@ -1,5 +1,4 @@
 use Rattle.plan.specs.Laws.Finish.{finish_two, finish_is}
-use borrow.Author.Rules.{rules}
 use Rattle.plan.proofs.finish.Goals as goal
 
 pub returns-then-f-eq2 : goal.returns-then-f-eq2

@@ -1,6 +1,5 @@
 use mathlib.Core.Path.{refl}
 use Rattle.plan.specs.Laws.Finish.{finish_two, finish_kept}
-use borrow.Author.Rules.{rules}
 use Rattle.plan.proofs.refresh.Goals as goal
 
 pub returns-then-f-eq2 : goal.returns-then-f-eq2

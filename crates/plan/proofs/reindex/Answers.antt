@@ -1,6 +1,5 @@
 use native.Mathlib.Omega.{arith}
 use Rattle.plan.specs.Laws.Finish.{reindex_never, reindex_is}
-use borrow.Author.Rules.{rules}
 use Rattle.plan.proofs.reindex.Goals as goal
 
 pub returns-then-number-gt256 : goal.returns-then-number-gt256

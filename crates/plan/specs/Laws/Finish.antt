@@ -6,7 +6,6 @@ use Rattle.std.proofs.Math.Path.{refl, sym, ap}
 use mathlib.Core.List.{List, [], ◌∷◌, ◌++◌, append_assoc, append-nil}
 use Rattle.std.proofs.Math.ListN.{length, length-append}
 use Rattle.format.specs.declared.Outcome.{Outcome}
-use Rattle.format.specs.declared.Outcome.TheVariants as Outcome
 use Rattle.format.specs.ReadWrite.{spelt, AllFit}
 use Rattle.format.specs.Laws.ReadWrite.{length_spelt}
 use Rattle.kind.specs.declared.Product.{Product}

@@ -6,14 +6,11 @@ use Rattle.std.proofs.Math.ListN.{length}
 use Rattle.std.proofs.Math.Seq.{length-take-le}
 use borrow.Author.Tests.{le-leb, lt-leb, leb-true}
 use Rattle.format.specs.declared.Fault.{Fault}
-use Rattle.format.specs.declared.Fault.TheVariants as Fault
 use Rattle.format.specs.declared.Outcome.{Outcome}
-use Rattle.format.specs.declared.Outcome.TheVariants as Outcome
 use Rattle.format.specs.Format.{Answer, got, refused, pick, Bytes}
 use Rattle.format.specs.Laws.Format.{bytes_take}
 use Rattle.kind.specs.declared.Product.{Product}
 use Rattle.kind.specs.declared.Edition.{Edition}
-use Rattle.kind.specs.declared.Edition.TheVariants as Edition
 use Rattle.kind.specs.Kinds.{edition_of}
 use Rattle.rule.specs.Rule.{Rule}
 use Rattle.deck.specs.Deck.{Deck, base_of, read_as, read_by, read_deck}
@@ -21,7 +18,6 @@ use Rattle.deck.specs.Laws.Deck.{deck_small, read_writes_back}
 use Rattle.deck.specs.Written.{deck_of, start_of}
 use Rattle.spot.specs.declared.Site.{Site}
 use Rattle.spot.specs.declared.Spot.{Spot}
-use Rattle.spot.specs.declared.Spot.TheVariants as Spot
 use Rattle.spot.specs.Laws.Spot.{spot_says}
 use Rattle.locate.specs.Laws.Located.{site_of, located}
 use Rattle.steps.specs.Laws.Steps.{Sound, sound_read, start_within}

@@ -2,7 +2,6 @@
 use Rattle.std.specs.Prelude.{ℕ, ◌+◌, ◌<◌, ◌^◌, ◌≡◌, refl, Bool, true, false, List, [], ◌∷◌, ◌++◌, eqb, length}
 use Rattle.std.proofs.Common.{arith, sym, ap, ◌∙◌, length-append}
 use Rattle.format.specs.declared.Fault.{Fault}
-use Rattle.format.specs.declared.Fault.TheVariants as Fault
 use Rattle.format.specs.Format.{Answer, got, refused, Bytes, pick, whole}
 use Rattle.format.specs.Laws.Format.{apart, mapped_got}
 use Rattle.format.specs.ReadWrite.{AllFit}
@@ -12,9 +11,7 @@ use Rattle.text.specs.Laws.Written.{length_fits, fits_string, fits_word}
 use Rattle.text.specs.Text.{Text, unit, string, word}
 use Rattle.kind.specs.declared.Product.{Product}
 use Rattle.kind.specs.declared.Kind.{Kind}
-use Rattle.kind.specs.declared.Kind.TheVariants as Kind
 use Rattle.kind.specs.declared.Row.{Row}
-use Rattle.kind.specs.declared.Row.TheVariants as Row
 use Rattle.kind.specs.Kinds.{kinds, row_in, row_of}
 use Rattle.kind.specs.Laws.Kinds.{offered_is}
 use Rattle.element.specs.Data.{words, data_of, marker_data, simple_data, word_data, size_data, date_data}

@@ -3,7 +3,6 @@ use Rattle.std.specs.Prelude.{ℕ, ◌+◌, ◌-◌, ◌≤◌, ◌<◌, max, �
 use Rattle.std.proofs.Common.{arith, sym, ap, ◌∙◌, append_assoc, length-append, length-take-le}
 use Rattle.format.specs.declared.Fault.TheVariants as Fault
 use Rattle.format.specs.declared.Outcome.{Outcome}
-use Rattle.format.specs.declared.Outcome.TheVariants as Outcome
 use Rattle.format.specs.Format.{Bytes}
 use Rattle.format.specs.ReadWrite.{spelt}
 use Rattle.format.specs.Laws.ReadWrite.{length_spelt}
@@ -20,7 +19,6 @@ use Rattle.buffer.specs.Laws.Laid.{opened}
 use Rattle.buffer.specs.Laws.Holds.{Holds, holds_start, holds_open, holds_fill}
 use Rattle.spot.specs.declared.Site.{Site}
 use Rattle.spot.specs.declared.Spot.{Spot}
-use Rattle.spot.specs.declared.Spot.TheVariants as Spot
 use Rattle.steps.specs.Laws.Steps.{Here, here, name_end}
 use Rattle.given.specs.Given.{is_text, text_of}
 use Rattle.plan.specs.Edit.{become, rename, edited, renamed}

@@ -7,22 +7,18 @@ use Rattle.std.proofs.Math.ListN.{length}
 use Rattle.std.proofs.Math.Dec.{leb}
 use borrow.Author.Tests.{le-leb, lt-leb, leb-true}
 use Rattle.format.specs.declared.Fault.{Fault}
-use Rattle.format.specs.declared.Fault.TheVariants as Fault
 use Rattle.format.specs.declared.Outcome.{Outcome}
 use Rattle.format.specs.declared.Outcome.TheVariants.{Done, No, Given}
 use Rattle.format.specs.declared.Read.{Read}
-use Rattle.format.specs.declared.Read.TheVariants as Read
 use Rattle.format.specs.Format.{Answer, got, refused, Bytes, pick}
 use Rattle.format.specs.ReadWrite.{each_write}
 use Rattle.format.specs.Row.{total}
 use Rattle.format.specs.Laws.Seen.{unlike}
 use Rattle.kind.specs.declared.Product.{Product}
 use Rattle.kind.specs.declared.Edition.{Edition}
-use Rattle.kind.specs.declared.Edition.TheVariants as Edition
 use Rattle.kind.specs.Kinds.{edition_of}
 use Rattle.rule.specs.Rule.{Rule, rule, elements_in}
 use Rattle.scan.specs.declared.Scan.{Scan}
-use Rattle.scan.specs.declared.Scan.TheVariants as Scan
 use Rattle.scan.specs.Scan.{scan_says}
 use Rattle.deck.specs.Deck.{Deck, base_of, read_as, read_by, read_deck, scanned}
 use Rattle.deck.specs.Laws.Deck.{read_writes_back, deck_small}

@@ -3,14 +3,11 @@ use Rattle.std.specs.Prelude.{ℕ, ◌+◌, ◌-◌, ◌*◌, ◌≤◌, ◌<◌
 use Rattle.std.proofs.Common.{zero-add, arith, sym, ap, ◌∙◌}
 use borrow.Author.Tests.{leb-true, le-leb, lt-leb}
 use Rattle.format.specs.declared.Fault.{Fault}
-use Rattle.format.specs.declared.Fault.TheVariants as Fault
 use Rattle.format.specs.declared.Outcome.{Outcome}
-use Rattle.format.specs.declared.Outcome.TheVariants as Outcome
 use Rattle.format.specs.Format.{pick}
 use Rattle.text.specs.declared.Form.{Form}
 use Rattle.text.specs.declared.Form.TheVariants.{Short}
 use Rattle.text.specs.declared.StringRead.{StringRead}
-use Rattle.text.specs.declared.StringRead.TheVariants as StringRead
 use Rattle.text.specs.Text.{Text, string, units_from}
 use Rattle.text.specs.Laws.Written.{string_long}
 use Rattle.view.specs.declared.View.{View}

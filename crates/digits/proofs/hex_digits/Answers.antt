@@ -1,0 +1,5 @@
+use Rattle.digits.specs.Laws.Digits.{hex_is}
+use Rattle.digits.proofs.hex_digits.Goals as goal
+
+pub returns : goal.returns
+returns c = hex_is _ c.digit.ensures c.digit-2.ensures c.digit-3.ensures c.digit-4.ensures c.digit-5.ensures c.digit-6.ensures c.digit-7.ensures c.digit-8.ensures

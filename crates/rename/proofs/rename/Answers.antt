@@ -1,0 +1,22 @@
+use native.Mathlib.Omega.{arith}
+use Rattle.format.specs.Laws.Format.{bytes_all}
+use Rattle.steps.specs.Laws.Steps.{name_got}
+use Rattle.plan.specs.Laws.Found.{edit_no, edit_done}
+use Rattle.plan.specs.Laws.Makes.{makes_unnamed}
+use Rattle.rename.specs.Laws.Rename.{rename_absent, found_named}
+use Rattle.rename.proofs.rename.Goals as goal
+
+pub returns-in_default : goal.returns-in_default
+returns-in_default c = edit_no _ _ _ _ _ c.find-f.ensures c.in_default.is c.spot_says.ensures
+
+pub returns-then-site-k : goal.returns-then-site-k
+returns-then-site-k c = edit_done _ _ _ _ _ (bytes_all c.args.buf.now c.slice_known-1.given) c.find-f.ensures c.in-Is.is (rename_absent _ _ _ _ _ c.if-site-k.true)
+
+pub returns-in_default-t : goal.returns-in_default-t
+returns-in_default-t c = edit_done _ _ _ _ _ (bytes_all c.args.buf.now c.slice_known-1.given) c.find-f.ensures c.in-Is.is (makes_unnamed _ _ _ _ _ _ _ (omega (arith, c.if-site-k.false)) c.name_end-t.ensures c.in_default-t.is)
+
+pub rename_at-requires : goal.rename_at-requires
+rename_at-requires c = found_named _ _ _ _ (bytes_all c.args.buf.now c.slice_known-1.given) c.find-f.ensures c.in-Is.is (omega (arith, c.if-site-k.false)) (name_got _ _ c.name_end-t.ensures c.in-Got.is)
+
+pub returns : goal.returns
+returns c = edit_done _ _ _ _ _ (bytes_all c.args.buf.now c.slice_known-1.given) c.find-f.ensures c.in-Is.is (c.rename_at.ensures _ _ (omega (arith, c.if-site-k.false)) (name_got _ _ c.name_end-t.ensures c.in-Got.is))

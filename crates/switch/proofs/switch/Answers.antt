@@ -1,0 +1,9 @@
+use Rattle.format.specs.Laws.Format.{bytes_all}
+use Rattle.plan.specs.Laws.Found.{edit_no, edit_done}
+use Rattle.switch.proofs.switch.Goals as goal
+
+pub returns-in_default : goal.returns-in_default
+returns-in_default c = edit_no _ _ _ _ _ c.find-f.ensures c.in_default.is c.spot_says.ensures
+
+pub returns : goal.returns
+returns c = edit_done _ _ _ _ _ (bytes_all c.args.buf.now c.slice_known-1.given) c.find-f.ensures c.in-Is.is (c.switch_at.ensures _)
