@@ -1,7 +1,6 @@
 -- Which numbers each call may give: document 01, "Numbers a refusal gives".
 use Rattle.std.specs.Prelude.{ℕ, List, [], ◌∷◌}
 use Rattle.format.specs.declared.Fault.{Fault}
-use Rattle.format.specs.declared.Fault.TheVariants as Fault
 use Rattle.format.specs.Fault.{number_of}
 use Rattle.plan.specs.Edit.{Edit, switch, rename, remove, insert, add_rule, add_element, add_word}
 use Rattle.bounds.specs.Listed.{Numbers, numbers, exactly}

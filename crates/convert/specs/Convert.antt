@@ -5,7 +5,6 @@ use Rattle.format.specs.declared.Outcome.{Outcome}
 use Rattle.format.specs.Format.{Answer, got, refused, pick}
 use Rattle.kind.specs.declared.Product.{Product}
 use Rattle.kind.specs.declared.Edition.{Edition}
-use Rattle.kind.specs.declared.Edition.TheVariants as Edition
 use Rattle.kind.specs.Kinds.{edition_of}
 use Rattle.rule.specs.Rule.{Rule}
 use Rattle.deck.specs.Deck.{Deck, version, read_as}

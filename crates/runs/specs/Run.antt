@@ -2,10 +2,8 @@
 use Rattle.std.specs.Prelude.{ℕ, max, ◌≡◌, List, [], ◌∷◌, length}
 use Rattle.format.specs.declared.Fault.TheVariants as Fault
 use Rattle.format.specs.declared.Outcome.{Outcome}
-use Rattle.format.specs.declared.Outcome.TheVariants as Outcome
 use Rattle.format.specs.Format.{Answer, got, refused}
 use Rattle.kind.specs.declared.Edition.{Edition}
-use Rattle.kind.specs.declared.Edition.TheVariants as Edition
 use Rattle.kind.specs.Kinds.{edition_of}
 use Rattle.kind.specs.declared.Product.{Product}
 use Rattle.deck.specs.Deck.{Deck, read_as}

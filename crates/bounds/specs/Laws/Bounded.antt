@@ -5,7 +5,6 @@ use native.Mathlib.Omega.{arith}
 use Rattle.std.specs.Prelude.{◌≡◌, Bool, true, false, List, ◌∷◌, leb, eqb, length, take, drop}
 use Rattle.std.proofs.Math.Path.{refl}
 use Rattle.format.specs.declared.Fault.{Fault}
-use Rattle.format.specs.declared.Fault.TheVariants as Fault
 use Rattle.format.specs.Format.{Answer, got, refused, end_of, shift, mapped, and_then, pick, Format, Bytes}
 use Rattle.format.specs.Laws.Format.{bytes_drop, end_mapped}
 use Rattle.format.specs.ReadWrite.{pair_read, number_read, value, each_read}

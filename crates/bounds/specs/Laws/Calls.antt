@@ -3,16 +3,13 @@ use Rattle.std.specs.Prelude.{ℕ, ◌+◌, ◌*◌, ◌≤◌, ◌≡◌, refl,
 use Rattle.std.proofs.Common.{arith}
 use mathlib.Core.List.{List, [], ◌∷◌}
 use Rattle.format.specs.declared.Fault.{Fault}
-use Rattle.format.specs.declared.Fault.TheVariants as Fault
 use Rattle.format.specs.declared.Outcome.{Outcome}
-use Rattle.format.specs.declared.Outcome.TheVariants as Outcome
 use Rattle.format.specs.Fault.{number_of}
 use Rattle.format.specs.Format.{Answer, got, refused, pick}
 use Rattle.format.specs.ReadWrite.{within}
 use Rattle.format.specs.Row.{total}
 use Rattle.kind.specs.declared.Product.{Product}
 use Rattle.kind.specs.declared.Edition.{Edition}
-use Rattle.kind.specs.declared.Edition.TheVariants as Edition
 use Rattle.kind.specs.Kinds.{edition_of}
 use Rattle.element.specs.Data.{words_of}
 use Rattle.element.specs.Element.{Element}
@@ -25,9 +22,7 @@ use Rattle.plan.specs.Handed.{Handed}
 use Rattle.fill.specs.Rows.{rule_width, element_width}
 use Rattle.tables.specs.Tables.{in_tables, tabled, read_says}
 use Rattle.view.specs.declared.View.{View}
-use Rattle.view.specs.declared.View.TheVariants as View
 use Rattle.fixed.specs.declared.Fielded.{Fielded}
-use Rattle.fixed.specs.declared.Fielded.TheVariants as Fielded
 use Rattle.asked.specs.Asked.{asked, asked_by, asked_of, asked_first}
 use Rattle.view.specs.View.{view_says}
 use Rattle.name_view.specs.Name.{name_at, name_view}

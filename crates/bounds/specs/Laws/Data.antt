@@ -2,7 +2,6 @@
 use Rattle.std.specs.Prelude.{ℕ, ◌≤◌, ◌≡◌, refl, Bool, true, false, List, [], ◌∷◌, eqb, length}
 use Rattle.std.proofs.Common.{arith, ◌∙◌}
 use Rattle.format.specs.declared.Fault.{Fault}
-use Rattle.format.specs.declared.Fault.TheVariants as Fault
 use Rattle.format.specs.Fault.{place_of}
 use Rattle.format.specs.Format.{Answer, got, refused, end_of, whole, pick, Format, Bytes}
 use Rattle.format.specs.Laws.Format.{end_mapped}
@@ -14,9 +13,7 @@ use Rattle.text.specs.Laws.Written.{length_most}
 use Rattle.date.specs.Date.{date}
 use Rattle.kind.specs.declared.Product.{Product}
 use Rattle.kind.specs.declared.Kind.{Kind}
-use Rattle.kind.specs.declared.Kind.TheVariants as Kind
 use Rattle.kind.specs.declared.Row.{Row}
-use Rattle.kind.specs.declared.Row.TheVariants as Row
 use Rattle.kind.specs.Kinds.{kinds, has, row_in, in_product, offered, row_of, kind_says}
 use Rattle.kind.specs.Laws.Kinds.{lacking, foreign}
 use Rattle.element.specs.Data.{one_zero, marker_data, simple_data, word_count, word_data, size_data, limit, date_data, data_of}

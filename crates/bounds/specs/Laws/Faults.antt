@@ -3,7 +3,6 @@ use Prim.Native.Nat.{ℕ, zero, suc, ◌+◌, ◌*◌}
 use Rattle.std.specs.Prelude.{◌≡◌, Bool, List, ◌∷◌, leb, eqb, length, take, drop}
 use Rattle.std.proofs.Math.Bool.{true, false}
 use Rattle.format.specs.declared.Fault.{Fault}
-use Rattle.format.specs.declared.Fault.TheVariants as Fault
 use Rattle.format.specs.Format.{Answer, got, refused, shift, mapped, and_then, whole, pick, Format}
 use Rattle.format.specs.ReadWrite.{pair_read, judge, judge_of, home, number_read, value, spelt, each_read, weighed}
 use Rattle.format.specs.Index.{onward, values_read, indexed_read}
@@ -15,9 +14,7 @@ use Rattle.date.specs.Date.{date}
 use Rattle.kind.specs.declared.Product.{Product}
 use Rattle.kind.specs.declared.Role.TheVariants.{Condition}
 use Rattle.kind.specs.declared.Kind.{Kind}
-use Rattle.kind.specs.declared.Kind.TheVariants as Kind
 use Rattle.kind.specs.declared.Row.{Row}
-use Rattle.kind.specs.declared.Row.TheVariants as Row
 use Rattle.kind.specs.Kinds.{kinds, row_in}
 use Rattle.element.specs.Data.{one_zero, marker_data, simple_data, word_data, size_data, limit, date_data, data_of}
 use Rattle.element.specs.Element.{data_by, identifier, element}

@@ -2,9 +2,7 @@
 use Rattle.std.specs.Prelude.{ℕ, ◌+◌, ◌≤◌, ◌≡◌, refl, Bool, true, false, ◌||◌, List, ◌∷◌, leb, eqb, length, take, drop}
 use Rattle.std.proofs.Common.{arith, ◌∙◌, le-leb, leb-true, eqb-true}
 use Rattle.format.specs.declared.Fault.{Fault}
-use Rattle.format.specs.declared.Fault.TheVariants as Fault
 use Rattle.format.specs.declared.Outcome.{Outcome}
-use Rattle.format.specs.declared.Outcome.TheVariants as Outcome
 use Rattle.format.specs.Fault.{number_of}
 use Rattle.format.specs.Format.{Answer, got, refused, end_of, shift, mapped, and_then, whole, pick, Format, Bytes}
 use Rattle.format.specs.ReadWrite.{pair_read, judge, judge_of, number_read, value, within}
@@ -13,7 +11,6 @@ use Rattle.format.specs.Combinators.{pair, judged, via, seq, ◌then◌, number,
 use Rattle.kind.specs.declared.Product.{Product}
 use Rattle.kind.specs.declared.Kind.{Kind}
 use Rattle.kind.specs.declared.Row.{Row}
-use Rattle.kind.specs.declared.Row.TheVariants as Row
 use Rattle.kind.specs.Kinds.{row_of}
 use Rattle.element.specs.Data.{data_of}
 use Rattle.rule.specs.Rule.{Rule, rule}

@@ -2,9 +2,7 @@
 use Rattle.std.specs.Prelude.{ℕ, ◌*◌, ◌≤◌, ◌≡◌, refl, Bool, true, false, List, [], ◌∷◌, leb, length, take, drop}
 use Rattle.std.proofs.Common.{arith}
 use Rattle.format.specs.declared.Fault.{Fault}
-use Rattle.format.specs.declared.Fault.TheVariants as Fault
 use Rattle.format.specs.declared.Outcome.{Outcome}
-use Rattle.format.specs.declared.Outcome.TheVariants as Outcome
 use Rattle.format.specs.Fault.{place_of}
 use Rattle.format.specs.Row.{total}
 use Rattle.format.specs.Format.{Answer, got, refused, end_of, pick, Bytes}
@@ -12,7 +10,6 @@ use Rattle.format.specs.Laws.Format.{bytes_take}
 use Rattle.text.specs.Text.{Text}
 use Rattle.kind.specs.declared.Product.{Product}
 use Rattle.kind.specs.declared.Edition.{Edition}
-use Rattle.kind.specs.declared.Edition.TheVariants as Edition
 use Rattle.kind.specs.Kinds.{edition_of}
 use Rattle.element.specs.Data.{words_of}
 use Rattle.element.specs.Element.{Element}

@@ -2,36 +2,28 @@
 use Rattle.std.specs.Prelude.{ℕ, ◌+◌, ◌≤◌, ◌≡◌, refl, Bool, true, false, List, [], leb, length}
 use Rattle.std.proofs.Common.{arith}
 use Rattle.format.specs.declared.Fault.{Fault}
-use Rattle.format.specs.declared.Fault.TheVariants as Fault
 use Rattle.format.specs.declared.Outcome.{Outcome}
-use Rattle.format.specs.declared.Outcome.TheVariants as Outcome
 use Rattle.format.specs.Fault.{number_of, place_of, Said}
 use Rattle.format.specs.Format.{Answer, got, refused, mapped, whole, pick, Bytes}
 use Rattle.format.specs.ReadWrite.{within, pair_write, each_write, spelt}
 use Rattle.format.specs.Combinators.{pair, seq, ◌then◌, judged, via, number, fixed, flag, count, each, counted, listed}
 use Rattle.kind.specs.declared.Product.{Product}
 use Rattle.kind.specs.declared.Edition.{Edition}
-use Rattle.kind.specs.declared.Edition.TheVariants as Edition
 use Rattle.kind.specs.declared.Kind.{Kind}
-use Rattle.kind.specs.declared.Kind.TheVariants as Kind
 use Rattle.kind.specs.declared.Row.{Row}
-use Rattle.kind.specs.declared.Row.TheVariants as Row
 use Rattle.kind.specs.Kinds.{kind_says, edition_of, row_of, row_by, kind_of}
 use Rattle.date.specs.Double.{accepted}
 use Rattle.date.specs.Date.{date}
 use Rattle.moment.specs.Moment.{SaysBy}
 use Rattle.element.specs.Data.{Data, words_of, one_zero, marker_data, simple_data, word_data, size_data, limit, date_data, data_of}
 use Rattle.value.specs.declared.Value.{Value}
-use Rattle.value.specs.declared.Value.TheVariants as Value
 use Rattle.value.specs.Value.{value_says, value_answer, from_data, from_kind, from_row, from_edition, value_of}
 use Rattle.put.specs.Plan.{Fitted, holds, lacks, from_span, from_value, is_of, fitted, write, deny, if_room, plan_data, plan_kind, plan_row, plan_edition, putting, put_says}
 use Rattle.view.specs.declared.View.{View}
-use Rattle.view.specs.declared.View.TheVariants as View
 use Rattle.view.specs.View.{view_says, part_says}
 use Rattle.name_view.specs.Name.{name_view}
 use Rattle.word_view.specs.Word.{word_view}
 use Rattle.fixed.specs.declared.Fielded.{Fielded}
-use Rattle.fixed.specs.declared.Fielded.TheVariants as Fielded
 use Rattle.fixed.specs.Fixed.{fixed_fields, fields_say, fields_answer}
 use Rattle.given.specs.Given.{given, given_by, with_data}
 use Rattle.bounds.specs.Listed.{Numbers, exactly, allowed, Lists}

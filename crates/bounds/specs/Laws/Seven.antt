@@ -3,7 +3,6 @@ use Rattle.std.specs.Prelude.{ℕ, ◌+◌, ◌*◌, ◌<◌, ◌≤◌, ◌≡�
 use Rattle.std.proofs.Common.{arith, sym, ◌∙◌, le-leb, leb-false, eqb-true}
 use Rattle.std.proofs.lemmas.Bool.{lt-leb}
 use Rattle.format.specs.declared.Fault.{Fault}
-use Rattle.format.specs.declared.Fault.TheVariants as Fault
 use Rattle.format.specs.Format.{Answer, refused, shift, mapped, and_then, pick, Format}
 use Rattle.format.specs.ReadWrite.{pair_read, judge, judge_of, home, number_read, value}
 use Rattle.format.specs.Combinators.{pair, via, judged, at_start, nothing, number, each}

@@ -1,5 +1,5 @@
 -- Laws of ../Convert.antt: how the code converts; there and back; what a reader of one version alone answers to another.
-use Rattle.std.specs.Prelude.{ℕ, ◌+◌, ◌-◌, ◌*◌, ◌≤◌, ◌<◌, Bool, leb, eqb, take, drop}
+use Rattle.std.specs.Prelude.{ℕ, ◌+◌, ◌-◌, ◌*◌, ◌≤◌, ◌<◌, Bool, eqb, take, drop}
 use Rattle.std.proofs.Common.{zero-mul, arith, sym, ◌∙◌, length-drop, length-take-le, take-add, drop_at, take_all}
 use Rattle.std.proofs.Math.Path.{◌≡◌, refl, ap}
 use Rattle.std.proofs.Math.Bool.{true, false}
@@ -7,22 +7,17 @@ use mathlib.Core.List.{List, [], ◌∷◌, ◌++◌, append_assoc, append-nil}
 use Rattle.std.proofs.Math.ListN.{length, length-append}
 use borrow.Author.Tests.{le-leb, lt-leb}
 use Rattle.format.specs.declared.Fault.{Fault}
-use Rattle.format.specs.declared.Fault.TheVariants as Fault
 use Rattle.format.specs.declared.Outcome.{Outcome}
-use Rattle.format.specs.declared.Outcome.TheVariants as Outcome
 use Rattle.format.specs.declared.Read.{Read}
-use Rattle.format.specs.declared.Read.TheVariants as Read
 use Rattle.format.specs.Format.{Answer, got, refused, pick, Bytes}
 use Rattle.format.specs.ReadWrite.{value, spelt}
 use Rattle.format.specs.Laws.ReadWrite.{length_spelt}
 use Rattle.format.specs.Laws.Seen.{seen, itself, told}
 use Rattle.kind.specs.declared.Product.{Product}
 use Rattle.kind.specs.declared.Edition.{Edition}
-use Rattle.kind.specs.declared.Edition.TheVariants as Edition
 use Rattle.kind.specs.Kinds.{edition_of}
 use Rattle.rule.specs.Rule.{Rule}
 use Rattle.scan.specs.declared.Scan.{Scan}
-use Rattle.scan.specs.declared.Scan.TheVariants as Scan
 use Rattle.scan.specs.Scan.{scan_says}
 use Rattle.deck.specs.Deck.{Deck, mark, version, wide, base_of, read_as, read_by, read_deck, scanned}
 use Rattle.deck.specs.Written.{deck_of, written}

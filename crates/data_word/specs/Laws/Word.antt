@@ -5,9 +5,7 @@ use Rattle.std.proofs.Math.Path.{ap}
 use mathlib.Core.List.{List, [], ◌∷◌}
 use Rattle.std.proofs.Math.ListN.{drop, drop_of_length-le}
 use Rattle.format.specs.declared.Fault.{Fault}
-use Rattle.format.specs.declared.Fault.TheVariants as Fault
 use Rattle.format.specs.declared.Read.{Read}
-use Rattle.format.specs.declared.Read.TheVariants as Read
 use Rattle.format.specs.Laws.ReadWrite.{length_spelt}
 use Rattle.format.specs.Combinators.{number}
 use Rattle.format.specs.Laws.Seen.{seen, itself}
@@ -16,7 +14,6 @@ use Rattle.format.specs.Laws.Back.{Where, stands_room, back_got, back_no}
 use Rattle.format.specs.Row.{start_in}
 use Rattle.format.specs.Laws.Skip.{Skipped, skip_is, skip_never, nth}
 use Rattle.text.specs.declared.StringRead.{StringRead}
-use Rattle.text.specs.declared.StringRead.TheVariants as StringRead
 use Rattle.text.specs.Text.{Text, length_of, unit, string, word}
 use Rattle.text.specs.Laws.Seen.{text_seen, text_back}
 use Rattle.text.specs.Laws.Written.{word_length}

@@ -9,16 +9,12 @@ use Rattle.std.specs.Prelude.{leb, take}
 use Rattle.std.proofs.Math.ListN.{length, drop, drop_of_length-le}
 use Rattle.std.proofs.lemmas.Bool.{lt-leb}
 use Rattle.format.specs.declared.Fault.{Fault}
-use Rattle.format.specs.declared.Fault.TheVariants as Fault
 use Rattle.format.specs.declared.Outcome.{Outcome}
-use Rattle.format.specs.declared.Outcome.TheVariants as Outcome
 use Rattle.format.specs.declared.Read.{Read}
-use Rattle.format.specs.declared.Read.TheVariants as Read
 use Rattle.format.specs.Laws.Fault.{in_given}
 use Rattle.format.specs.Format.{Answer, got, refused, pick, Bytes}
 use Rattle.kind.specs.declared.Product.{Product}
 use Rattle.kind.specs.declared.Edition.{Edition}
-use Rattle.kind.specs.declared.Edition.TheVariants as Edition
 use Rattle.kind.specs.Kinds.{edition_of}
 use Rattle.rule.specs.Rule.{Rule}
 use Rattle.rule.specs.Places.{enabled_at}
@@ -30,7 +26,6 @@ use Rattle.room.specs.Room.{room_for}
 use Rattle.buffer.specs.Laws.Holds.{Holds, holds_fill}
 use Rattle.spot.specs.declared.Site.{Site}
 use Rattle.spot.specs.declared.Spot.{Spot}
-use Rattle.spot.specs.declared.Spot.TheVariants as Spot
 use Rattle.spot.specs.Laws.Spot.{spot_says}
 use Rattle.locate.specs.Laws.Located.{site_of, located}
 use Rattle.steps.specs.Laws.Steps.{Sound, sound_read, Here, here, here_stands, name_read, name_end, name_end_lem, name_never, start_within, start_past}

@@ -3,7 +3,6 @@ use Rattle.std.specs.Prelude.{ℕ, ◌+◌, ◌-◌, ◌≡◌, refl, Bool, true
 use Rattle.std.proofs.Common.{arith, sym, ◌∙◌, append_assoc, length-append, drop_of_length-le, drop-drop}
 use Rattle.std.proofs.Math.Path.{ap}
 use Rattle.format.specs.declared.Fault.{Fault}
-use Rattle.format.specs.declared.Fault.TheVariants as Fault
 use Rattle.format.specs.declared.Read.{Read}
 use Rattle.format.specs.declared.Read.TheVariants.{Got, No}
 use Rattle.format.specs.Format.{pick}
@@ -18,10 +17,8 @@ use Rattle.format.specs.Laws.Skip.{Skipped, nth}
 use Rattle.text.specs.Text.{word, Text}
 use Rattle.kind.specs.declared.Product.{Product}
 use Rattle.kind.specs.declared.Kind.{Kind}
-use Rattle.kind.specs.declared.Kind.TheVariants as Kind
 use Rattle.kind.specs.declared.Role.TheVariants as Role
 use Rattle.kind.specs.declared.Row.{Row}
-use Rattle.kind.specs.declared.Row.TheVariants as Row
 use Rattle.kind.specs.Kinds.{kinds, row_in}
 use Rattle.element.specs.Data.{Data, plain, words, sizes, span, of_words, words_of, data_of, word_data}
 use Rattle.element.specs.Laws.Data.{Other, words_none, list_parts}

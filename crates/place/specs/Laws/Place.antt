@@ -14,7 +14,6 @@ use Rattle.format.specs.ReadWrite.{spelt, each_write}
 use Rattle.format.specs.Laws.ReadWrite.{length_spelt}
 use Rattle.format.specs.declared.Fault.{Fault}
 use Rattle.format.specs.declared.Read.{Read}
-use Rattle.format.specs.declared.Read.TheVariants as Read
 use Rattle.text.specs.Text.{string}
 use Rattle.kind.specs.declared.Product.{Product}
 use Rattle.rule.specs.Rule.{Rule}

@@ -1,6 +1,5 @@
 use mathlib.Core.Path.{refl}
 use Rattle.remove.specs.Laws.Remove.{led_is}
-use borrow.Author.Rules.{rules}
 use Rattle.remove.proofs.lead.Goals as goal
 
 pub returns : goal.returns

@@ -3,7 +3,6 @@ use Rattle.format.specs.Laws.Format.{bytes_all}
 use Rattle.plan.specs.Laws.Found.{edit_no, edit_done, found_within}
 use Rattle.remove.specs.Laws.Remove.{remove_absent, remove_unnamed, found_next}
 use Rattle.steps.specs.Laws.Steps.{name_got}
-use borrow.Author.Rules.{rules}
 use Rattle.remove.proofs.remove.Goals as goal
 
 pub returns-in_default : goal.returns-in_default

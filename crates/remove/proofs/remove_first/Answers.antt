@@ -1,7 +1,6 @@
 use native.Mathlib.Omega.{arith}
 use Rattle.format.specs.Laws.Format.{bytes_all}
 use Rattle.remove.specs.Laws.Remove.{remove_unread, remove_first, size_bound}
-use borrow.Author.Rules.{rules}
 use Rattle.remove.proofs.remove_first.Goals as goal
 
 pub returns-in_default : goal.returns-in_default

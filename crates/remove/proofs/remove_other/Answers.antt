@@ -1,5 +1,4 @@
 use Rattle.remove.specs.Laws.Remove.{remove_other}
-use borrow.Author.Rules.{rules}
 use Rattle.remove.proofs.remove_other.Goals as goal
 
 pub returns : goal.returns

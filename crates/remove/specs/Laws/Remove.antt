@@ -7,9 +7,7 @@ use Rattle.std.proofs.Common.{◌∙◌, append_assoc, length-append, length-dro
 use Rattle.std.proofs.Math.ListN.{length, take}
 use Rattle.std.proofs.Math.Seq.{length-take-le}
 use Rattle.format.specs.declared.Fault.{Fault}
-use Rattle.format.specs.declared.Fault.TheVariants as Fault
 use Rattle.format.specs.declared.Outcome.{Outcome}
-use Rattle.format.specs.declared.Outcome.TheVariants as Outcome
 use Rattle.format.specs.declared.Read.{Read}
 use Rattle.format.specs.declared.Read.TheVariants.{Got, No}
 use Rattle.format.specs.Format.{Bytes}
@@ -33,7 +31,6 @@ use Rattle.buffer.specs.Laws.Laid.{opened, moved, down}
 use Rattle.buffer.specs.Laws.Holds.{Holds, Gap, holds_start, holds_put, holds_down, holds_open, holds_fill}
 use Rattle.spot.specs.declared.Site.{Site}
 use Rattle.spot.specs.declared.Spot.{Spot}
-use Rattle.spot.specs.declared.Spot.TheVariants as Spot
 use Rattle.steps.specs.Laws.Steps.{Here, here, name_read, name_end, name_end_lem, size_read, size_is}
 use Rattle.plan.specs.Edit.{remove, edited, become}
 use Rattle.plan.specs.Laws.Found.{Makes, Does, Sits, sits_within, found, ground}

@@ -9,7 +9,6 @@ use Rattle.format.specs.Format.{Answer, got, refused, pick}
 use Rattle.kind.specs.declared.Product.{Product}
 use Rattle.kind.specs.declared.Product.TheVariants.{Studio}
 use Rattle.kind.specs.declared.Edition.{Edition}
-use Rattle.kind.specs.declared.Edition.TheVariants as Edition
 use Rattle.kind.specs.Kinds.{edition_of}
 use Rattle.deck.specs.Deck.{Deck, version, deck, read_as}
 use Rattle.deck.specs.Written.{afresh}
