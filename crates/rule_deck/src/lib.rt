@@ -1,4 +1,4 @@
-// What the C products call: numbers and byte slices in, one number out, code plus 256 times place.
+// What the products call: numbers and byte slices in, one number out, code plus 256 times place. The crate rule_deck_c exports it to C.
 #![tactic(auto)]
 
 ghost use Rattle.std.specs.Prelude.{◌≡◌, length};
@@ -22,37 +22,28 @@ ghost use Rattle.rule_deck.specs.Sent.{Hands, HandsMoment, Sends, SendsOther, fi
 use rule::Fields;
 
 // The version of this library.
-#[unsafe(no_mangle)]
-pub extern "C" fn rule_deck_version() -> u64
+pub fn rule_deck_version() -> u64
     ensures { result ≡ version }
 {
     version::version()
 }
 
 // The deck check: the number of rules as its place, or a refusal.
-#[unsafe(no_mangle)]
-pub extern "C" fn rule_deck_check(edition: u64, deck: &[u8]) -> u64
+pub fn rule_deck_check(edition: u64, deck: &[u8]) -> u64
     ensures { result ≡ packed (answered (read_deck edition deck.now)) }
 {
     packed::pack(deck::check(edition, deck))
 }
 
 // Reads a deck into two tables.
-#[unsafe(no_mangle)]
-pub extern "C" fn rule_deck_read(
-    edition: u64,
-    deck: &[u8],
-    rules: &mut [u32],
-    elements: &mut [u32],
-) -> u64
+pub fn rule_deck_read(edition: u64, deck: &[u8], rules: &mut [u32], elements: &mut [u32]) -> u64
     ensures { (result ≡ packed (read_says (edition_of edition) (length rules.old) (length elements.old) deck.now)) × ((rules.new ≡ rules_after (edition_of edition) deck.now rules.old elements.old) × (elements.new ≡ elements_after (edition_of edition) deck.now rules.old elements.old)) }
 {
     packed::pack(tables::read(edition, deck, rules, elements))
 }
 
 // Where the units of the name of rule k start.
-#[unsafe(no_mangle)]
-pub extern "C" fn rule_deck_name(edition: u64, deck: &[u8], k: u64) -> u64
+pub fn rule_deck_name(edition: u64, deck: &[u8], k: u64) -> u64
     ensures { result ≡ packed (view_says (name_view edition k deck.now)) }
 {
     let v = name_view::find_name(edition, deck, k);
@@ -60,8 +51,7 @@ pub extern "C" fn rule_deck_name(edition: u64, deck: &[u8], k: u64) -> u64
 }
 
 // Where the units of word w of element e of rule k start.
-#[unsafe(no_mangle)]
-pub extern "C" fn rule_deck_word(edition: u64, deck: &[u8], k: u64, e: u64, w: u64) -> u64
+pub fn rule_deck_word(edition: u64, deck: &[u8], k: u64, e: u64, w: u64) -> u64
     ensures { result ≡ packed (view_says (word_view edition k e w deck.now)) }
 {
     let v = word_view::find_word(edition, deck, k, e, w);
@@ -69,32 +59,28 @@ pub extern "C" fn rule_deck_word(edition: u64, deck: &[u8], k: u64, e: u64, w: u
 }
 
 // The row of an identifier among the kinds, and its role.
-#[unsafe(no_mangle)]
-pub extern "C" fn rule_deck_kind(edition: u64, identifier: u32, kind: &mut [u32]) -> u64
+pub fn rule_deck_kind(edition: u64, identifier: u32, kind: &mut [u32]) -> u64
     ensures { Hands kind_width kind.old (kind_of edition identifier) result kind.new }
 {
     packed::pack(lent_kind::kind(edition, identifier, kind))
 }
 
 // The fixed fields of rule k.
-#[unsafe(no_mangle)]
-pub extern "C" fn rule_deck_fields(edition: u64, deck: &[u8], k: u64, fields: &mut [u32]) -> u64
+pub fn rule_deck_fields(edition: u64, deck: &[u8], k: u64, fields: &mut [u32]) -> u64
     ensures { Hands fields_width fields.old (fields_answer edition k deck.now) result fields.new }
 {
     packed::pack(lent_fields::fields(edition, deck, k, fields))
 }
 
 // The name of rule k as a part of the deck, by its numbers.
-#[unsafe(no_mangle)]
-pub extern "C" fn rule_deck_name_part(edition: u64, deck: &[u8], k: u64, part: &mut [u32]) -> u64
+pub fn rule_deck_name_part(edition: u64, deck: &[u8], k: u64, part: &mut [u32]) -> u64
     ensures { Hands part_width part.old (part_says (name_view edition k deck.now)) result part.new }
 {
     packed::pack(lent_part::name_part(edition, deck, k, part))
 }
 
 // Word w of element e of rule k as a part of the deck, by its numbers.
-#[unsafe(no_mangle)]
-pub extern "C" fn rule_deck_word_part(
+pub fn rule_deck_word_part(
     edition: u64,
     deck: &[u8],
     k: u64,
@@ -108,81 +94,56 @@ pub extern "C" fn rule_deck_word_part(
 }
 
 // What the date of these bits says.
-#[unsafe(no_mangle)]
-pub extern "C" fn rule_deck_moment(bits: u64, moment: &mut [u32]) -> u64
+pub fn rule_deck_moment(bits: u64, moment: &mut [u32]) -> u64
     ensures { HandsMoment bits moment.old result moment.new }
 {
     packed::pack(lent_moment::moment(bits, moment))
 }
 
 // The value of lone element data.
-#[unsafe(no_mangle)]
-pub extern "C" fn rule_deck_value(edition: u64, identifier: u32, s: &[u8], value: &mut [u64]) -> u64
+pub fn rule_deck_value(edition: u64, identifier: u32, s: &[u8], value: &mut [u64]) -> u64
     ensures { Hands value_width value.old (value_answer edition identifier s.now) result value.new }
 {
     packed::pack(value_table::value(edition, identifier, s, value))
 }
 
 // A value as the data of an identifier, written at the start of a buffer.
-#[unsafe(no_mangle)]
-pub extern "C" fn rule_deck_put_value(
-    edition: u64,
-    identifier: u32,
-    value: &[u64],
-    buf: &mut [u8],
-) -> u64
+pub fn rule_deck_put_value(edition: u64, identifier: u32, value: &[u64], buf: &mut [u8]) -> u64
     ensures { (result ≡ packed (put_says (putting edition identifier (value_from value.now) (length buf.old)))) × (buf.new ≡ put_leaves buf.old (putting edition identifier (value_from value.now) (length buf.old))) }
 {
     packed::pack(put_table::put_value(edition, identifier, value, buf))
 }
 
 // Starts an empty deck.
-#[unsafe(no_mangle)]
-pub extern "C" fn rule_deck_start(buf: &mut [u8]) -> u64
+pub fn rule_deck_start(buf: &mut [u8]) -> u64
     ensures { (result ≡ packed (start_says (length buf.old))) × (buf.new ≡ start_leaves buf.old) }
 {
     packed::pack(start::start(buf))
 }
 
 // Switches rule k on or off.
-#[unsafe(no_mangle)]
-pub extern "C" fn rule_deck_switch(
-    edition: u64,
-    buf: &mut [u8],
-    stated: u64,
-    k: u64,
-    on: bool,
-) -> u64
+pub fn rule_deck_switch(edition: u64, buf: &mut [u8], stated: u64, k: u64, on: bool) -> u64
     ensures { Sends edition stated (switch k on) buf.old result buf.new }
 {
     packed::pack(switch::switch(edition, buf, stated as usize, k, on))
 }
 
 // Renames rule k.
-#[unsafe(no_mangle)]
-pub extern "C" fn rule_deck_rename(
-    edition: u64,
-    buf: &mut [u8],
-    stated: u64,
-    k: u64,
-    name: &[u8],
-) -> u64
+pub fn rule_deck_rename(edition: u64, buf: &mut [u8], stated: u64, k: u64, name: &[u8]) -> u64
     ensures { Sends edition stated (rename k name.now) buf.old result buf.new }
 {
     packed::pack(rename::rename(edition, buf, stated as usize, k, name))
 }
 
 // Removes rule k.
-#[unsafe(no_mangle)]
-pub extern "C" fn rule_deck_remove(edition: u64, buf: &mut [u8], stated: u64, k: u64) -> u64
+pub fn rule_deck_remove(edition: u64, buf: &mut [u8], stated: u64, k: u64) -> u64
     ensures { Sends edition stated (remove k) buf.old result buf.new }
 {
     packed::pack(remove::remove(edition, buf, stated as usize, k))
 }
 
 // Inserts at place k a copy of rule j of a second deck.
-#[unsafe(no_mangle)]
-pub extern "C" fn rule_deck_insert(
+pub fn rule_deck_insert(
     edition: u64,
     buf: &mut [u8],
     stated: u64,
@@ -196,8 +157,7 @@ pub extern "C" fn rule_deck_insert(
 }
 
 // Adds a rule at the end.
-#[unsafe(no_mangle)]
-pub extern "C" fn rule_deck_add_rule(
+pub fn rule_deck_add_rule(
     edition: u64,
     buf: &mut [u8],
     stated: u64,
@@ -225,8 +185,7 @@ pub extern "C" fn rule_deck_add_rule(
 }
 
 // Adds an element to the last rule.
-#[unsafe(no_mangle)]
-pub extern "C" fn rule_deck_add_element(
+pub fn rule_deck_add_element(
     edition: u64,
     buf: &mut [u8],
     stated: u64,
@@ -239,24 +198,21 @@ pub extern "C" fn rule_deck_add_element(
 }
 
 // Adds a word to the list that is the last element of the last rule.
-#[unsafe(no_mangle)]
-pub extern "C" fn rule_deck_add_word(edition: u64, buf: &mut [u8], stated: u64, word: &[u8]) -> u64
+pub fn rule_deck_add_word(edition: u64, buf: &mut [u8], stated: u64, word: &[u8]) -> u64
     ensures { Sends edition stated (add_word word.now) buf.old result buf.new }
 {
     packed::pack(word::add_word(edition, buf, stated as usize, word))
 }
 
 // A deck of version 1 as one of version 2.
-#[unsafe(no_mangle)]
-pub extern "C" fn rule_deck_to_2(edition: u64, deck: &[u8], buf: &mut [u8]) -> u64
+pub fn rule_deck_to_2(edition: u64, deck: &[u8], buf: &mut [u8]) -> u64
     ensures { SendsOther edition 1 2 deck.now buf.old result buf.new }
 {
     packed::pack(convert::to_2(edition, deck, buf))
 }
 
 // A deck of version 2 as one of version 1.
-#[unsafe(no_mangle)]
-pub extern "C" fn rule_deck_to_1(edition: u64, deck: &[u8], buf: &mut [u8]) -> u64
+pub fn rule_deck_to_1(edition: u64, deck: &[u8], buf: &mut [u8]) -> u64
     ensures { SendsOther edition 2 1 deck.now buf.old result buf.new }
 {
     packed::pack(convert::to_1(edition, deck, buf))
