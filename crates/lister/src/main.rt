@@ -1,21 +1,21 @@
 // Lists the deck on standard input, read as Studio: document 01, "One deck whole".
 #![tactic(auto)]
 
-ghost use Rattle.std.specs.Prelude.{◌≤◌, ◌<◌, ◌^◌, length};
+ghost use Rattle.std.specs.Prelude.{◌≤◌, ◌<◌, ◌^◌, IfOk, length};
 
 use fill::{ELEMENT_WIDTH, RULE_WIDTH};
 use format::Outcome;
-use libc::{STDIN_FILENO, STDOUT_FILENO};
+use std::io;
 
 // The first n bytes of a line's buffer.
-fn print(line: &[u8], n: usize)
+fn print(rt: &impl Print, line: &[u8], n: usize) -> io::Result<()>
     requires { n ≤ length line.now }
 {
-    io::write_all(STDOUT_FILENO, &line[..n]);
+    rt.write_all(&line[..n])
 }
 
 // The n elements of a rule, whose rows are those from first on.
-fn list_elements(elements: &[u32], first: usize, n: usize)
+fn list_elements(rt: &impl Print, elements: &[u32], first: usize, n: usize) -> io::Result<()>
     requires { (first < 2 ^ 48) × (n < 2 ^ 32) }
 {
     let mut text = [0u8; 96];
@@ -23,70 +23,90 @@ fn list_elements(elements: &[u32], first: usize, n: usize)
     while j < n {
         let at = ELEMENT_WIDTH * (first + j);
         if elements.len() < at {
-            return;
+            return Ok(());
         }
         let len = listed::element_line(&mut text, j, &elements[at..]);
-        print(&text, len);
+        print(rt, &text, len)?;
         j += 1;
     }
+    Ok(())
 }
 
 // Rule k, and behind it its elements, whose rows are those from first on; answers how many they are.
-fn list_rule(s: &[u8], rules: &[u32], k: usize, elements: &[u32], first: usize) -> usize
+fn list_rule(
+    rt: &impl Print,
+    s: &[u8],
+    rules: &[u32],
+    k: usize,
+    elements: &[u32],
+    first: usize,
+) -> io::Result<usize>
     requires { (k < 256) × (first < 2 ^ 48) }
-    ensures { result < 2 ^ 32 }
+    ensures { IfOk result (λ n. n < 2 ^ 32) }
 {
     let at = RULE_WIDTH * k;
     if rules.len() < at {
-        return 0;
+        return Ok(0);
     }
     let mut text = [0u8; 96];
     let row = &rules[at..];
     let len = listed::rule_line(&mut text, s, k, row);
-    print(&text, len);
+    print(rt, &text, len)?;
     let n = listed::entry(row, 3) as usize;
-    list_elements(elements, first, n);
-    n
+    list_elements(rt, elements, first, n)?;
+    Ok(n)
 }
 
 // The rules, each with its elements behind it; answers how many elements there were.
-fn list_rules(s: &[u8], count: usize, rules: &[u32], elements: &[u32]) -> usize {
+fn list_rules(
+    rt: &impl Print,
+    s: &[u8],
+    count: usize,
+    rules: &[u32],
+    elements: &[u32],
+) -> io::Result<usize> {
     let mut k = 0;
     let mut i = 0;
     while k < count {
         if 256 <= k {
-            return i;
+            return Ok(i);
         }
-        i += list_rule(s, rules, k, elements, i);
+        i += list_rule(rt, s, rules, k, elements, i)?;
         k += 1;
     }
-    i
+    Ok(i)
 }
 
-fn list(s: &[u8], count: usize, rules: &[u32], elements: &[u32]) {
+fn list(
+    rt: &impl Print,
+    s: &[u8],
+    count: usize,
+    rules: &[u32],
+    elements: &[u32],
+) -> io::Result<()> {
     let mut text = [0u8; 96];
     let n = listed::deck_line(&mut text, s);
-    print(&text, n);
-    let all = list_rules(s, count, rules, elements);
+    print(rt, &text, n)?;
+    let all = list_rules(rt, s, count, rules, elements)?;
     let n = line::end(&mut text, count as u64, all as u64);
-    print(&text, n);
+    print(rt, &text, n)
 }
 
-fn refused(code: u64, place: usize) {
+fn refused(rt: &impl Print, code: u64, place: usize) -> io::Result<()> {
     let mut text = [0u8; 96];
     let n = line::refused(&mut text, code, place as u64);
-    print(&text, n);
+    print(rt, &text, n)
 }
 
-fn main() {
-    let mut space = io::large_buffer();
-    let n = io::read_full(STDIN_FILENO, &mut space);
+fn main(rt: HostRuntime) -> io::Result<()> {
+    let mut space = [0u8; 65536];
+    let n = stream::read_full(&mut rt.stdin(), &mut space)?;
     let mut rules = [0u32; 256 * RULE_WIDTH];
     let mut elements = [0u32; 4096 * ELEMENT_WIDTH];
     let o = tables::read(2, &space[..n], &mut rules, &mut elements);
     match o {
-        Outcome::Done(count) => list(&space[..n], count, &rules, &elements),
-        Outcome::No(c, p) => refused(format::number_of(c), p),
-        Outcome::Given(c, p) => refused(format::number_of(c), p),
+        Outcome::Done(count) => list(&rt, &space[..n], count, &rules, &elements),
+        Outcome::No(c, p) => refused(&rt, format::number_of(c), p),
+        Outcome::Given(c, p) => refused(&rt, format::number_of(c), p),
     }
 }

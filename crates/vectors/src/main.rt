@@ -4,8 +4,8 @@
 ghost use Rattle.std.specs.Prelude.{◌≡◌, ◌≤◌, ◌<◌, ◌^◌, length};
 
 use format::{Outcome, Read};
-use libc::{STDIN_FILENO, STDOUT_FILENO};
 use rule::Fields;
+use std::io;
 
 // The most bytes of a file and of a string; a number of bytes that no string has; a place that no vector has.
 const MOST: usize = 65536;
@@ -631,54 +631,53 @@ fn rebase(v: &[u8], base: &mut [u8], n: usize) -> usize
 
 // What is printed.
 
-fn say(text: &[u8]) {
-    io::write_all(STDOUT_FILENO, text);
+fn say(rt: &impl Print, text: &[u8]) -> io::Result<()> {
+    rt.write_all(text)
 }
 
-fn decimal(n: u64) {
-    io::write_all(STDOUT_FILENO, b" ");
-    io::print_decimal(STDOUT_FILENO, n);
+fn decimal(rt: &impl Print, n: u64) -> io::Result<()> {
+    print!(rt; " {n}")
 }
 
-fn malformed(at: usize) {
-    say(b"MALFORMED");
-    decimal(at as u64);
-    say(b"\n");
+fn malformed(rt: &impl Print, at: usize) -> io::Result<()> {
+    say(rt, b"MALFORMED")?;
+    decimal(rt, at as u64)?;
+    say(rt, b"\n")
 }
 
-fn differs(index: u64, call: u64, code: u64, place: u64) {
-    say(b"DIFFERS");
-    decimal(index);
-    decimal(call);
-    decimal(code);
-    decimal(place);
-    say(b"\n");
+fn differs(rt: &impl Print, index: u64, call: u64, code: u64, place: u64) -> io::Result<()> {
+    say(rt, b"DIFFERS")?;
+    decimal(rt, index)?;
+    decimal(rt, call)?;
+    decimal(rt, code)?;
+    decimal(rt, place)?;
+    say(rt, b"\n")
 }
 
-fn total(count: u64, agreed: u64) {
-    say(b"VECTORS");
-    decimal(count);
-    say(b" AGREED");
-    decimal(agreed);
-    say(b"\n");
+fn total(rt: &impl Print, count: u64, agreed: u64) -> io::Result<()> {
+    say(rt, b"VECTORS")?;
+    decimal(rt, count)?;
+    say(rt, b" AGREED")?;
+    decimal(rt, agreed)?;
+    say(rt, b"\n")
 }
 
 // Tells of the vector at a place of the file: 1 if it agrees, 0 if it differs, 2 if it is malformed.
-fn tell(ran: Ran, at: usize, index: u64, call: u64) -> u64 {
+fn tell(rt: &impl Print, ran: Ran, at: usize, index: u64, call: u64) -> io::Result<u64> {
     match ran {
-        Ran::Agrees => 1,
+        Ran::Agrees => Ok(1),
         Ran::Differs(code, place) => {
-            differs(index, call, code, place);
-            0
+            differs(rt, index, call, code, place)?;
+            Ok(0)
         }
         Ran::Malformed => {
-            malformed(at);
-            2
+            malformed(rt, at)?;
+            Ok(2)
         }
     }
 }
 
-fn run_all(f: &[u8])
+fn run_all(rt: &impl Print, f: &[u8]) -> io::Result<()>
     requires { length f.now ≤ 65536 }
 {
     let mut base = [0u8; 65536];
@@ -690,30 +689,29 @@ fn run_all(f: &[u8])
         let a = at + 2;
         let e = a + two(f, at);
         if f.len() < e {
-            malformed(at);
-            return;
+            return malformed(rt, at);
         }
         let v = &f[a..e];
         let ran = vector(v, &base[..known]);
-        let one = tell(ran, at, count, byte(v, 0));
+        let one = tell(rt, ran, at, count, byte(v, 0))?;
         if 1 < one {
-            return;
+            return Ok(());
         }
         known = rebase(v, &mut base, known);
         agreed += one;
         count += 1;
         at = e;
     }
-    total(count, agreed);
+    total(rt, count, agreed)
 }
 
-fn main() {
-    let mut space = io::large_buffer();
+fn main(rt: HostRuntime) -> io::Result<()> {
+    let mut input = rt.stdin();
+    let mut space = [0u8; 65536];
     let mut more = [0u8; 1];
-    let n = io::read_full(STDIN_FILENO, &mut space);
-    if 0 < io::read_full(STDIN_FILENO, &mut more) {
-        malformed(MOST);
-        return;
+    let n = stream::read_full(&mut input, &mut space)?;
+    if 0 < stream::read_full(&mut input, &mut more)? {
+        return malformed(&rt, MOST);
     }
-    run_all(&space[..n]);
+    run_all(&rt, &space[..n])
 }

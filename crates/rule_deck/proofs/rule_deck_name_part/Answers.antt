@@ -1,0 +1,6 @@
+use Rattle.bounds.specs.Laws.Results.{name_part_small}
+use Rattle.rule_deck.specs.Laws.Sent.{result_sent}
+use Rattle.rule_deck.proofs.rule_deck_name_part.Goals as goal
+
+pub returns : goal.returns
+returns c = let a = c.args in result_sent _ _ _ c.name_part.ensures (name_part_small a.edition a.k a.deck.now) c.pack.ensures
