@@ -10,7 +10,6 @@ use Rattle.civil.specs.declared.Civil.{Civil}
 use Rattle.civil.specs.Calendar.{leap, month_days, months_days, years_days, Valid, day_of}
 use Rattle.date.specs.Double.{negative, size, day, accepted}
 use Rattle.moment.specs.declared.Moment.{Moment}
-use Rattle.moment.specs.declared.Moment.TheVariants as Moment
 use Rattle.moment.specs.Moment.{origin, day_in, second_in, moment_says, Says}
 use Rattle.moment.specs.Laws.Moment.{says_at, says_no}
 use Rattle.kind.specs.declared.Role.TheVariants.{Condition}

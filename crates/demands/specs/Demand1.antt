@@ -5,7 +5,6 @@ use Rattle.std.specs.Prelude.{ℕ, ◌+◌, ◌<◌, ◌≡◌, refl, Bool, true
 use Rattle.std.proofs.Common.{arith, ◌∙◌}
 use Rattle.format.specs.declared.Fault.TheVariants as Fault
 use Rattle.format.specs.declared.Outcome.{Outcome}
-use Rattle.format.specs.declared.Outcome.TheVariants as Outcome
 use Rattle.format.specs.Fault.{number_of, code_of, Said}
 use Rattle.format.specs.Format.{Answer, pick, Bytes}
 use Rattle.format.specs.Laws.Format.{one}
@@ -13,7 +12,6 @@ use Rattle.buffer.specs.Laid.{put}
 use Rattle.room.specs.Laws.Room.{room_judged}
 use Rattle.kind.specs.declared.Product.{Product}
 use Rattle.kind.specs.declared.Edition.{Edition}
-use Rattle.kind.specs.declared.Edition.TheVariants as Edition
 use Rattle.kind.specs.Kinds.{edition_of, kind_of}
 use Rattle.date.specs.Double.{accepted}
 use Rattle.moment.specs.Moment.{SaysBy}

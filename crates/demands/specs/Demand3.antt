@@ -3,7 +3,6 @@
 use Rattle.std.specs.Prelude.{ℕ, ◌+◌, ◌≤◌, ◌≡◌, refl, List, [], eqb, length, take}
 use Rattle.std.proofs.Common.{arith, ap, ap₂, ◌∙◌, ne_eqb}
 use Rattle.format.specs.declared.Outcome.{Outcome}
-use Rattle.format.specs.declared.Outcome.TheVariants as Outcome
 use Rattle.format.specs.Fault.{number_of, code_of, place_of, packed}
 use Rattle.format.specs.Laws.Fault.{numbered, packed_code, packed_place}
 use Rattle.format.specs.Format.{got, Bytes, pick}

@@ -10,9 +10,7 @@ use Rattle.date.specs.Date.{date}
 use Rattle.kind.specs.declared.Product.{Product}
 use Rattle.kind.specs.declared.Role.TheVariants as Role
 use Rattle.kind.specs.declared.Kind.{Kind}
-use Rattle.kind.specs.declared.Kind.TheVariants as Kind
 use Rattle.kind.specs.declared.Row.{Row}
-use Rattle.kind.specs.declared.Row.TheVariants as Row
 use Rattle.kind.specs.Kinds.{row_in, kinds}
 use Rattle.element.specs.Data.{Data, one_zero, marker_data, simple_data, word_data, size_data, limit, date_data, data_of}
 use Rattle.element.specs.Element.{Element, element, identifier, data_by}

@@ -18,7 +18,6 @@ use Rattle.kind.specs.declared.Kind.{Kind}
 use Rattle.kind.specs.declared.Row.TheVariants as Row
 use Rattle.kind.specs.Kinds.{edition_of, row_of}
 use Rattle.value.specs.declared.Value.{Value}
-use Rattle.value.specs.declared.Value.TheVariants as Value
 use Rattle.value.specs.declared.Valued.TheVariants as Valued
 use Rattle.element.specs.Data.{Data, sizes_of, span_of, size_data, data_of}
 use Rattle.value.specs.Value.{value_in, value_case, value_answer, value_of}

@@ -6,9 +6,7 @@ use Rattle.std.specs.Float.{binary64}
 use Rattle.std.specs.Float.Ieee.{to_bits, fits}
 use Rattle.std.specs.Float.Ieee.Bits.{of_bits-to_bits, to_bits-lt}
 use Rattle.format.specs.declared.Fault.{Fault}
-use Rattle.format.specs.declared.Fault.TheVariants as Fault
 use Rattle.format.specs.declared.Outcome.{Outcome}
-use Rattle.format.specs.declared.Outcome.TheVariants as Outcome
 use Rattle.format.specs.Format.{Answer, got, refused, Bytes, pick, whole}
 use Rattle.format.specs.ReadWrite.{bit}
 use Rattle.format.specs.Combinators.{pair, seq, ◌then◌, judged, via, number, fixed, flag}
@@ -16,18 +14,13 @@ use Rattle.format.specs.Laws.Combinators.{then_fit}
 use Rattle.date.specs.Double.{accepted}
 use Rattle.date.specs.Date.{date}
 use Rattle.kind.specs.declared.Edition.{Edition}
-use Rattle.kind.specs.declared.Edition.TheVariants as Edition
 use Rattle.kind.specs.declared.Kind.{Kind}
-use Rattle.kind.specs.declared.Kind.TheVariants as Kind
 use Rattle.kind.specs.declared.Row.{Row}
-use Rattle.kind.specs.declared.Row.TheVariants as Row
 use Rattle.kind.specs.Kinds.{edition_of, row_of}
 use Rattle.element.specs.Data.{Data, plain, sizes, span, words_of, sizes_of, span_of, one_zero, marker_data, simple_data, size_data, limit, date_data, data_of}
 use Rattle.value.specs.declared.Span.{Span}
 use Rattle.value.specs.declared.Value.{Value}
-use Rattle.value.specs.declared.Value.TheVariants as Value
 use Rattle.value.specs.declared.Valued.{Valued}
-use Rattle.value.specs.declared.Valued.TheVariants as Valued
 use Rattle.value.specs.Value.{floats, value_in, from_data, from_kind, from_row, from_edition, value_of}
 use Rattle.value.specs.Laws.Dates.{limit_back}
 use Rattle.put.specs.Plan.{after_of, before_of, Fitted, holds, lacks, from_span, from_value, shape, is_of, Putting, write, deny, if_room, plan_data, plan_kind, plan_row, plan_edition, putting, Puts}

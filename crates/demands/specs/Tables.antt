@@ -20,7 +20,6 @@ use Rattle.format.specs.Row.{total, start_in}
 use Rattle.text.specs.Laws.Written.{string_long}
 use Rattle.kind.specs.declared.Product.{Product}
 use Rattle.kind.specs.declared.Edition.{Edition}
-use Rattle.kind.specs.declared.Edition.TheVariants as Edition
 use Rattle.kind.specs.Kinds.{kinds, row_in, edition_of}
 use Rattle.element.specs.Element.{Element, data_by, element, identifier}
 use Rattle.rule.specs.Rule.{Rule, rule, placed, separator, elements_in}

@@ -14,9 +14,7 @@ use Rattle.text.specs.Laws.Written.{string_written, string_fits, string_long, wo
 use Rattle.kind.specs.declared.Product.{Product}
 use Rattle.kind.specs.declared.Role.TheVariants.{Condition}
 use Rattle.kind.specs.declared.Kind.{Kind}
-use Rattle.kind.specs.declared.Kind.TheVariants as Kind
 use Rattle.kind.specs.declared.Row.{Row as KindRow}
-use Rattle.kind.specs.declared.Row.TheVariants as KindRow
 use Rattle.element.specs.Data.{Data, words_of, data_of}
 use Rattle.element.specs.Laws.Data.{Other, words_none, list_parts}
 use Rattle.element.specs.Element.{Element, data_by}

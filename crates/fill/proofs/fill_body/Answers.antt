@@ -18,7 +18,7 @@ fill_elements-requires c = record {
   rest_len_bound = search rules;
   at_bound = omega (arith, seen_ends itself _ _ _ c.u16_at-c.ensures c.in-Got.is, seen_ends none _ _ _ c.head_at-h.ensures c.in-Got-h.is);
   n_bound = two_small _ _ (bytes_all _ c.shared_slice_known-1.given) c.u16_at-c.ensures c.in-Got.is;
-  small = search rules
+  small = search rules;
 }
 
 pub returns : goal.returns
