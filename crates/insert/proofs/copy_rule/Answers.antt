@@ -1,10 +1,11 @@
+use borrow.Author.Rules.{rules}
 use native.Mathlib.Omega.{arith}
 use Rattle.room.specs.Laws.Room.{roomy}
 use Rattle.insert.specs.Laws.Insert.{inserts_out, inserts_done}
 use Rattle.insert.proofs.copy_rule.Goals as goal
 
 pub returns-in_default : goal.returns-in_default
-returns-in_default c = inserts_out _ _ _ _ _ _ c.wide_of.ensures.0 c.room_for-o.ensures c.in_default.not-Done c.requires.place (omega (arith, c.lost_at.ensures.0, c.head_size.ensures.0))
+returns-in_default c = inserts_out _ _ _ _ _ _ c.wide_of.ensures.0 c.room_for-o.ensures (search rules) c.requires.place (omega (arith, c.lost_at.ensures.0, c.head_size.ensures.0))
 
 pub put_copy-requires : goal.put_copy-requires
 put_copy-requires c =

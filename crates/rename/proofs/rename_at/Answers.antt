@@ -1,3 +1,4 @@
+use borrow.Author.Rules.{rules}
 use borrow.Author.Tests.{not-true, not-false}
 use native.Mathlib.Omega.{arith}
 use mathlib.Core.Path.{refl, sym, ◌∙◌}
@@ -15,7 +16,7 @@ pub overflow_add-n : goal.overflow_add-n
 overflow_add-n c = omega (arith, text_small c.args.name.now, c.text_size-len.ensures, c.requires.short)
 
 pub returns-in_default : goal.returns-in_default
-returns-in_default c = λ edition k l ee. rename_out edition k _ _ _ l (bytes_all c.args.name.now c.shared_slice_known-1.given) (sym c.is_text.ensures ∙ not-false _ (ap not c.if-not-is_text.false)) ee c.text_size-len.ensures refl c.room_for-o.ensures c.in_default.not-Done
+returns-in_default c = λ edition k l ee. rename_out edition k _ _ _ l (bytes_all c.args.name.now c.shared_slice_known-1.given) (sym c.is_text.ensures ∙ not-false _ (ap not c.if-not-is_text.false)) ee c.text_size-len.ensures refl c.room_for-o.ensures (search rules)
 
 pub returns : goal.returns
 returns c = λ edition k l ee. rename_done edition k _ _ _ _ _ l (bytes_all c.args.name.now c.shared_slice_known-1.given) (sym c.is_text.ensures ∙ not-false _ (ap not c.if-not-is_text.false)) ee c.text_size-len.ensures refl c.room_for-o.ensures c.in-Done.is c.open.ensures c.put_text.ensures c.refresh.ensures

@@ -7,7 +7,7 @@ pub overflow_add-new-2 : goal.overflow_add-new-2
 overflow_add-new-2 c = let w = text_small c.args.word.now in search (rules, w, c.text_size-size.ensures)
 
 pub returns-in_default : goal.returns-in_default
-returns-in_default c = lengthen_out _ _ _ _ _ _ _ c.requires.3 c.text_size-size.ensures c.room_for-o.ensures c.in_default.not-Done
+returns-in_default c = lengthen_out _ _ _ _ _ _ _ c.requires.3 c.text_size-size.ensures c.room_for-o.ensures (search rules)
 
 pub returns-then-new-e : goal.returns-then-new-e
 returns-then-new-e c = lengthen_short _ _ _ _ _ _ _ _ _ _ c.if-new-e.true
