@@ -26,15 +26,15 @@ use Rattle.demands.specs.Laws.Places.{stands_in, string_units, word_units, words
 -- the deck s was read as the rules rs in version v
 module _ (edition : ℕ) (p : Product) (ed : edition_of edition ≡ Edition.Of p) (v : ℕ) (s : List ℕ) (rs : List Rule) (n : ℕ) (bs : Bytes s) (e : read_as p s ≡ got (deck_of v rs) n) where
   -- and r is rule k of them
-  module _ (k : ℕ) {r : Rule} {later : List Rule} (is-r : drop k rs ≡ r ∷ later) where
+  module _ (k : ℕ) {r : Rule} {later : List Rule} (is_r : drop k rs ≡ r ∷ later) where
     asked_is : {W : Type 0} (refuse : Fault → ℕ → W) (f : Product → ℕ → Rule → W) → asked refuse f edition k s ≡ f p (start_of v rs k) r
     unfolding asked
-    asked_is refuse f = rw (ed, e, is-r)
+    asked_is refuse f = rw (ed, e, is_r)
 
     pub name_is_shown : UnitsOf r.name.units (shown (name_view edition k s) s)
     unfolding name_view
     name_is_shown =
-        let h = rule_stands p v s rs n bs e k is-r in
+        let h = rule_stands p v s rs n bs e k is_r in
         rw asked_is (string_units s (start_of v rs k + 4) (rule_parts p k s (start_of v rs k) r h.0 h.1).named.1)
 
     pub name_is_told : part_says (name_view edition k s) ≡ (Done 0, units_at (start_of v rs k) r ∷ 2 * length r.name.units ∷ form_number r.name.form ∷ [])
@@ -44,13 +44,13 @@ module _ (edition : ℕ) (p : Product) (ed : edition_of edition ≡ Edition.Of p
     -- element i of it is a list of words, and t is word w of them
     pub word_is_shown : (i w : ℕ) {id : ℕ} {ws more : List Text} {t : Text} {others : List Element} → drop i r.elements ≡ (id, words ws) ∷ others → drop w ws ≡ t ∷ more → UnitsOf t.units (shown (word_view edition k i w s) s)
     unfolding word_view
-    word_is_shown i w {id} {ws} is-list is_IsWord =
-        let h = element_stands p v s rs n bs e k is-r i is-list in
+    word_is_shown i w {id} {ws} is_list is_word =
+        let h = element_stands p v s rs n bs e k is_r i is_list in
         let at = data_at i (element_start p v rs k r i) in
-        let row = words_row w s at (row_in kinds id) is_IsWord (placed_parts p i s (element_start p v rs k r i) (id, words ws) h.0 h.1).carries in
-        rw (asked_is, is-list, is_IsWord) (word_units s _ (stands_in (λ j. word) s (at + 4) w ws row is_IsWord).1)
+        let row = words_row w s at (row_in kinds id) is_word (placed_parts p i s (element_start p v rs k r i) (id, words ws) h.0 h.1).carries in
+        rw (asked_is, is_list, is_word) (word_units s _ (stands_in (λ j. word) s (at + 4) w ws row is_word).1)
 
     pub word_is_told : (i w : ℕ) {id : ℕ} {ws more : List Text} {t : Text} {others : List Element} → drop i r.elements ≡ (id, words ws) ∷ others → drop w ws ≡ t ∷ more
         → part_says (word_view edition k i w s) ≡ (Done 0, units_from (start_in (λ j. word) (data_at i (element_start p v rs k r i) + 4) ws w + 4) t ∷ 2 * length t.units ∷ form_number t.form ∷ [])
     unfolding word_view
-    word_is_told i w is-list is_IsWord = rw (asked_is, is-list, is_IsWord)
+    word_is_told i w is_list is_word = rw (asked_is, is_list, is_word)
