@@ -5,11 +5,11 @@ camel case. Modules and what Rust declares keep their names.
 usage: respell.py [--list] FOLDER      FOLDER holds crates/; once, after port.py. --list prints the renamings and writes nothing.
 
 A name is one that a file of specs/ or proofs/ declares, but for what stands in the proof of one function (proofs/F/). A lemma that would have
-its function's name gets _lem. Names that still fall together end it with status 1 and nothing written. What was renamed is in tools/respelt.tsv.
+its function's name gets _lem. Names that still fall together end it with status 1 and nothing written. docs/PORT-NAMES.tsv has what was renamed, by this
+script and by port.py.
 """
 import collections
 import glob
-import os
 import re
 import sys
 
@@ -31,14 +31,13 @@ def text(path):
 
 
 def declared(root):
-    found = collections.defaultdict(set)
+    found = set()
     for path in files(root, "antt"):
         if path.endswith("/Proof.antt"):
             continue
-        crate = path.split("/crates/")[1].split("/")[0]
         for m in DECLARED.finditer(re.sub(r"--[^\n]*", "", text(path))):
             if m["names"] not in KEYWORDS and not MADE.match(m["names"]):
-                found[m["names"]].add(crate)
+                found.add(m["names"])
     return found
 
 
@@ -126,9 +125,6 @@ def main():
             with open(path, "w", encoding="utf-8") as f:
                 f.write(new)
     print(f"respelt: {len(table)} names")
-    os.makedirs(os.path.join(root, "tools"), exist_ok=True)
-    with open(os.path.join(root, "tools/respelt.tsv"), "w", encoding="utf-8") as f:
-        f.writelines(f"{n}\t{m}\n" for n, m in sorted(table.items()))
     return 0
 
 

@@ -1,19 +1,16 @@
-use borrow.Author.Tests.{not-true, not-false}
 use Rattle.add_rule.specs.Laws.Rule.{rule_text, rule_given, rule_done}
 use Rattle.format.specs.Laws.Format.{bytes_all}
 use mathlib.Core.Path.{sym, ◌∙◌}
-use mathlib.Core.Path.{ap}
-use mathlib.Core.Bool.{not}
 use Rattle.add_rule.proofs.rule_in.Goals as goal
 
 pub returns-then-not-text : goal.returns-then-not-text
-returns-then-not-text c = rule_text _ _ _ _ _ _ _ (sym c.is_text-text.ensures ∙ not-true _ (ap not c.if-not-text.true))
+returns-then-not-text c = rule_text _ _ _ _ _ _ _ (sym c.is_text-text.ensures ∙ c.if-not-text.true)
 
 pub returns-in_default : goal.returns-in_default
-returns-in_default c = rule_given _ _ _ _ _ _ _ (sym c.is_text-text.ensures ∙ not-false _ (ap not c.if-not-text.false)) c.given_element-x.ensures c.in_default.is c.end_says.ensures c.in_given.ensures
+returns-in_default c = rule_given _ _ _ _ _ _ _ (sym c.is_text-text.ensures ∙ c.if-not-text.false) c.given_element-x.ensures c.in_default.is c.end_says.ensures c.in_given.ensures
 
 pub extend-requires : goal.extend-requires
-extend-requires c = (c.requires.0, c.requires.1, sym c.is_text-text.ensures ∙ not-false _ (ap not c.if-not-text.false))
+extend-requires c = (c.requires.0, c.requires.1, sym c.is_text-text.ensures ∙ c.if-not-text.false)
 
 pub returns : goal.returns
-returns c = rule_done _ _ _ _ _ _ _ _ _ c.ranges.identifier.fits (bytes_all c.args.name.now c.shared_slice_known-1.given) (bytes_all c.args.s.now c.shared_slice_known-2-1.given) (sym c.is_text-text.ensures ∙ not-false _ (ap not c.if-not-text.false)) c.given_element-x.ensures c.in-Got.is c.extend.ensures
+returns c = rule_done _ _ _ _ _ _ _ _ _ c.ranges.identifier.fits (bytes_all c.args.name.now c.shared_slice_known-1.given) (bytes_all c.args.s.now c.shared_slice_known-2-1.given) (sym c.is_text-text.ensures ∙ c.if-not-text.false) c.given_element-x.ensures c.in-Got.is c.extend.ensures

@@ -1,11 +1,10 @@
-use Prim.Native.Nat.{◌+◌, ◌-◌, ◌≤◌}
+use Prim.Native.Nat.{◌-◌}
 use native.Mathlib.Omega.{arith}
-use mathlib.Core.Path.{◌≡◌, ◌∙◌}
-use lib.ListN.{length}
+use mathlib.Core.Path.{◌∙◌}
 use Rattle.format.specs.Laws.Format.{bytes_all}
 use Rattle.format.specs.Laws.Back.{seen_ends, seen_stops}
 use Rattle.element.specs.Laws.Element.{named}
-use Rattle.fill.specs.Laws.Fill.{ElementsTurn, elements_start, elements_done, elements_stop, elements_fill, under_no, under_is, identifier_small}
+use Rattle.fill.specs.Laws.Fill.{elements_start, elements_done, elements_stop, elements_fill, under_no, under_is, identifier_small}
 use borrow.Author.Rules.{rules}
 use Rattle.fill.proofs.fill_elements.Goals as goal
 

@@ -1,12 +1,7 @@
 use Prim.Native.Nat.{◌+◌, ◌-◌, ◌≤◌}
-use native.Mathlib.Omega.{arith}
-use mathlib.Core.Path.{◌≡◌, ◌∙◌}
+use mathlib.Core.Path.{◌≡◌}
 use lib.ListN.{length}
-use Rattle.format.specs.Laws.Format.{bytes_all}
-use Rattle.format.specs.Laws.Back.{seen_ends, seen_stops}
-use Rattle.element.specs.Laws.Element.{named}
-use Rattle.fill.specs.Laws.Fill.{ElementsTurn, elements_start, elements_done, elements_stop, elements_fill, under_no, under_is, identifier_small}
-use borrow.Author.Rules.{rules}
+use Rattle.fill.specs.Laws.Fill.{ElementsTurn}
 use Rattle.fill.proofs.fill_elements.Given as goal
 
 abbrev pub invariant-loop-j : goal.invariant-loop-j

@@ -2,7 +2,6 @@ use native.Mathlib.Omega.{arith}
 use mathlib.Core.Path.{refl}
 use Rattle.fill.specs.Laws.Fill.{under_no, under_off, under_is, under_got}
 use Rattle.fill.specs.Laws.Parts.{rule_past, rule_off, rule_in}
-use borrow.Author.Rules.{rules}
 use Rattle.fill.proofs.fill_rule.Goals as goal
 
 pub returns-then-s-at : goal.returns-then-s-at

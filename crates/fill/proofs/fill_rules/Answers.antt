@@ -1,9 +1,8 @@
-use Prim.Native.Nat.{◌+◌, ◌-◌, ◌*◌, ◌^◌, ◌≤◌}
+use Prim.Native.Nat.{◌-◌}
 use native.Mathlib.Omega.{arith}
-use mathlib.Core.Path.{◌≡◌, ◌∙◌}
-use lib.ListN.{length}
+use mathlib.Core.Path.{◌∙◌}
 use Rattle.fill.specs.Laws.Fill.{under_got}
-use Rattle.fill.specs.Laws.Parts.{RulesTurn, rules_long, rules_past, rules_many, rules_start, rules_done, rules_stop, rules_go}
+use Rattle.fill.specs.Laws.Parts.{rules_long, rules_past, rules_many, rules_start, rules_done, rules_stop, rules_go}
 use borrow.Author.Rules.{rules}
 use Rattle.fill.proofs.fill_rules.Goals as goal
 

@@ -1,9 +1,7 @@
 use Prim.Native.Nat.{◌+◌, ◌-◌, ◌*◌, ◌^◌, ◌≤◌}
-use native.Mathlib.Omega.{arith}
-use mathlib.Core.Path.{◌≡◌, ◌∙◌}
+use mathlib.Core.Path.{◌≡◌}
 use lib.ListN.{length}
-use Rattle.fill.specs.Laws.Fill.{under_got}
-use Rattle.fill.specs.Laws.Parts.{RulesTurn, rules_long, rules_past, rules_many, rules_start, rules_done, rules_stop, rules_go}
+use Rattle.fill.specs.Laws.Parts.{RulesTurn}
 use borrow.Author.Rules.{rules}
 use Rattle.fill.proofs.fill_rules.Given as goal
 

@@ -3,7 +3,6 @@ use mathlib.Core.Path.{◌∙◌}
 use Rattle.buffer.specs.Laws.Laid.{put_in_lem}
 use Rattle.buffer.proofs.Parts.{put_tail}
 use Rattle.lent.specs.Laws.Lent.{lent_put}
-use borrow.Author.Rules.{rules}
 use Rattle.fill.proofs.put_row.Goals as goal
 
 pub returns-then-t-at : goal.returns-then-t-at

@@ -1,7 +1,7 @@
 use Rattle.kind.specs.Kinds.{edition_of}
 use Rattle.format.specs.Format.{pick}
 use native.Mathlib.Omega.{arith}
-use Rattle.std.specs.Prelude.{◌≡◌, ◌≢◌}
+use Rattle.std.specs.Prelude.{◌≢◌}
 use borrow.Author.Tests.{ne_eqb}
 use Rattle.kind.proofs.edition_of.Goals as goal
 

@@ -1,5 +1,5 @@
 -- Document 02, W5: the forms of Strings after an edit. "Renaming and adding use the shortest form for the name or word given"; "an inserted rule keeps it". That
--- "given element data keeps its own" is given-written, of given.
+-- "given element data keeps its own" is given_written, of given.
 use Rattle.std.specs.Prelude.{ℕ, ◌-◌, ◌≤◌, ◌<◌, ◌≡◌, true, List, [], ◌∷◌, ◌++◌, length, take, drop}
 use Rattle.std.proofs.Common.{◌∙◌}
 use borrow.Author.Tests.{le-leb}

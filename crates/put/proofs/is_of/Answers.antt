@@ -3,7 +3,6 @@ use Prim.Native.Nat.{ℕ}
 use lib.Dec.{eqb}
 use Rattle.put.specs.Plan.{is_of}
 use Rattle.put.specs.Laws.Put.{of_by, of_simple, of_other}
-use borrow.Author.Rules.{rules}
 use Rattle.put.proofs.is_of.Goals as goal
 
 pub returns-in-Marker : goal.returns-in-Marker

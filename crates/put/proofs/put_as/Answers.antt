@@ -1,6 +1,5 @@
 use Rattle.format.specs.Format.{pick}
 use Rattle.put.specs.Laws.Put.{format_by, shape_of, not_put, of_none, of_put}
-use borrow.Author.Rules.{rules}
 use mathlib.Core.Path.{ap}
 use mathlib.Core.Bool.{not}
 use Rattle.put.proofs.put_as.Goals as goal

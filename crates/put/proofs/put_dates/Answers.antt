@@ -1,6 +1,5 @@
 use mathlib.Core.Path.{sym, ◌∙◌}
 use Rattle.put.specs.Laws.Put.{after_off, before_off, span_put_by}
-use borrow.Author.Rules.{rules}
 use Rattle.put.proofs.put_dates.Goals as goal
 
 pub put_span-requires : goal.put_span-requires

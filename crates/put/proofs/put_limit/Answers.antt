@@ -1,7 +1,6 @@
 use native.Mathlib.Omega.{arith}
 use Rattle.date.proofs.Floats.{float_no_nan}
 use Rattle.put.specs.Laws.Put.{limit_put}
-use borrow.Author.Rules.{rules}
 use Rattle.put.proofs.put_limit.Goals as goal
 
 pub float_to_bits-days : goal.float_to_bits-days

@@ -1,5 +1,4 @@
 use Rattle.put.specs.Laws.Put.{no_room, all_put, marker_put, marker_long}
-use borrow.Author.Rules.{rules}
 use Rattle.put.proofs.put_marker.Goals as goal
 
 pub returns-then-buf-lt12 : goal.returns-then-buf-lt12

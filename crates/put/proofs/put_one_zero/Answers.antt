@@ -1,5 +1,4 @@
 use Rattle.put.specs.Laws.Put.{one_zero_put}
-use borrow.Author.Rules.{rules}
 use Rattle.put.proofs.put_one_zero.Goals as goal
 
 pub returns : goal.returns

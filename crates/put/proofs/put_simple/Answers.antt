@@ -1,5 +1,4 @@
 use Rattle.put.specs.Laws.Put.{no_room, all_put, simple_put, simple_long}
-use borrow.Author.Rules.{rules}
 use Rattle.put.proofs.put_simple.Goals as goal
 
 pub returns-then-buf-lt8 : goal.returns-then-buf-lt8

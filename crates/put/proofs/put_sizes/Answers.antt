@@ -1,5 +1,4 @@
 use Rattle.put.specs.Laws.Put.{no_room, all_put, sizes_put, sizes_long}
-use borrow.Author.Rules.{rules}
 use Rattle.put.proofs.put_sizes.Goals as goal
 
 pub returns-then-buf-lt16 : goal.returns-then-buf-lt16

@@ -1,6 +1,5 @@
 use native.Mathlib.Omega.{arith}
 use Rattle.put.specs.Laws.Put.{no_room, all_put, span_put, span_long}
-use borrow.Author.Rules.{rules}
 use Rattle.put.proofs.put_span.Goals as goal
 
 pub returns-then-buf-lt40 : goal.returns-then-buf-lt40

@@ -1,5 +1,4 @@
 use Rattle.put.specs.Laws.Put.{put_none_in, put_off, put_of}
-use borrow.Author.Rules.{rules}
 use Rattle.put.proofs.put_value.Goals as goal
 
 pub returns-in_default : goal.returns-in_default

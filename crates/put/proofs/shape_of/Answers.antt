@@ -1,7 +1,6 @@
 use mathlib.Core.Path.{refl}
 use Rattle.put.specs.Plan.{shape}
 use Rattle.put.specs.Laws.Put.{shape_by}
-use borrow.Author.Rules.{rules}
 use Rattle.put.proofs.shape_of.Goals as goal
 
 pub returns-in-Marker : goal.returns-in-Marker

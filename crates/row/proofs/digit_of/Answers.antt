@@ -1,5 +1,4 @@
 use Rattle.row.specs.Laws.Lines.{digit_is}
-use borrow.Author.Rules.{rules}
 use Rattle.row.proofs.digit_of.Goals as goal
 
 pub returns : goal.returns

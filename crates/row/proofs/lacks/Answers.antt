@@ -1,5 +1,4 @@
 use Rattle.row.specs.Laws.Lines.{lacks_at}
-use borrow.Author.Rules.{rules}
 use Rattle.row.proofs.lacks.Goals as goal
 
 pub returns-in-Desk : goal.returns-in-Desk

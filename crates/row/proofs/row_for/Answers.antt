@@ -1,5 +1,4 @@
 use Rattle.row.specs.Laws.Lines.{row_foreign, row_has}
-use borrow.Author.Rules.{rules}
 use Rattle.row.proofs.row_for.Goals as goal
 
 pub returns-then-lacks : goal.returns-then-lacks

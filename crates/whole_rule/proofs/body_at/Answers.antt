@@ -1,7 +1,6 @@
 use lib.ListN.{length}
-use Rattle.format.specs.Laws.Seen.{none}
+use Rattle.format.specs.Laws.Seen.{none, reading, refused_is}
 use Rattle.rule.specs.Rule.{body}
-use Rattle.format.specs.Laws.Seen.{reading, refused_is}
 use Rattle.format.specs.Laws.Rows.{counted_is, row_long}
 use Rattle.whole_rule.proofs.body_at.Goals as goal
 
