@@ -8,11 +8,12 @@ ghost use Rattle.plan.specs.Edit.{add_element, Edits};
 ghost use Rattle.plan.specs.Laws.Found.{MakesAs, Within};
 ghost use Rattle.add_element.specs.Laws.Element.{later_bytes, Grows};
 
-use format::{Fault, Outcome, Read};
-use kind::{Edition, Product};
-use spot::{Site, Spot};
+use format::{Fault, Outcome, Refusal};
+use kind::Product;
+use spot::Site;
 
 // An element behind others of its rule: 8001 first.
+#[tactic(auto, using(crate::specs::Laws::Element::later_put))]
 fn put_element(buf: &mut [u8], at: usize, identifier: u32, s: &[u8])
     requires { at + 6 + length s.now ≤ length buf.old }
     ensures { buf.new ≡ put_in buf.old at (later_bytes identifier s.now) }
@@ -22,6 +23,7 @@ fn put_element(buf: &mut [u8], at: usize, identifier: u32, s: &[u8])
 }
 
 // To the last of m rules, whose name ends at e and which has count elements.
+#[tactic(auto, using(room::specs::Laws::Room::roomy, crate::specs::Laws::Element::grow_out, crate::specs::Laws::Element::grow_short, crate::specs::Laws::Element::grow_done))]
 fn grow(
     buf: &mut [u8],
     n: usize,
@@ -35,17 +37,14 @@ fn grow(
     ensures { Grows n m e count identifier s.now buf.old result buf.new }
 {
     let new = n + 6 + s.len();
-    let o = room::room_for(m, new, buf.len());
-    let Outcome::Done(_) = o else {
-        return o;
-    };
+    let size = room::room_for(m, new, buf.len())?;
     if new < e + 24 {
-        return Outcome::No(Fault::Last, 0);
+        return Err(Refusal::At(Fault::Last, 0));
     }
     put_element(buf, n, identifier, s);
     buffer::put_number(buf, e + 20, 4, (new - (e + 24)) as u64);
     buffer::put_number(buf, e + 24, 2, count + 1);
-    o
+    Ok(size)
 }
 
 // To the last rule, the one that was found.
@@ -54,23 +53,14 @@ fn element_in(buf: &mut [u8], f: Site, product: Product, identifier: u32, s: &[u
     ensures { MakesAs product last_of f (add_element identifier s.now) buf.old result buf.new }
 {
     if f.rules == 0 {
-        return Outcome::No(Fault::Last, 0);
+        return Err(Refusal::At(Fault::Last, 0));
     }
-    let t = steps::name_end(buf, f.start);
-    let Read::Got(e, _) = t else {
-        return format::end_says(t);
-    };
-    let z = wire::u16_at(buf, e + 24);
-    let Read::Got(_, count) = z else {
-        return format::end_says(z);
-    };
+    let (e, _) = steps::name_end(buf, f.start)?;
+    let (_, count) = wire::u16_at(buf, e + 24)?;
     if 64 <= count {
-        return Outcome::No(Fault::Full, 0);
+        return Err(Refusal::At(Fault::Full, 0));
     }
-    let g = given::given_element(product, identifier, s);
-    let Read::Got(_, _) = g else {
-        return format::in_given(format::end_says(g));
-    };
+    format::in_given(given::given_element(product, identifier, s))?;
     grow(buf, f.bytes, f.rules, e, count, identifier, s)
 }
 
@@ -78,13 +68,9 @@ fn element_in(buf: &mut [u8], f: Site, product: Product, identifier: u32, s: &[u
 pub fn add_element(edition: u64, buf: &mut [u8], n: usize, identifier: u32, s: &[u8]) -> Outcome
     ensures { Edits edition n (add_element identifier s.now) buf.old result buf.new }
 {
-    let o = kind::edition_of(edition);
-    let Edition::Of(product) = o else {
-        return Outcome::No(Fault::Edition, 0);
+    let Some(product) = kind::edition_of(edition) else {
+        return Err(Refusal::At(Fault::Edition, 0));
     };
-    let f = plan::find_last(edition, buf, n);
-    let Spot::Is(site) = f else {
-        return spot::spot_says(f);
-    };
+    let site = plan::find_last(edition, buf, n)?;
     element_in(buf, site, product, identifier, s)
 }

@@ -12,12 +12,13 @@ ghost use Rattle.plan.specs.Handed.{HandedFields};
 ghost use Rattle.plan.specs.Laws.Found.{MakesAs};
 ghost use Rattle.add_rule.specs.Laws.Rule.{kept_bytes, front_bytes, back_bytes, Extends};
 
-use format::{Fault, Outcome, Read};
-use kind::{Edition, Product};
+use format::{Fault, Outcome, Refusal};
+use kind::Product;
 use rule::Fields;
-use spot::{Site, Spot};
+use spot::Site;
 
 // Enabled and Unknown2 to Unknown5.
+#[tactic(auto, using(crate::specs::Laws::Rule::kept_put))]
 fn put_kept(buf: &mut [u8], at: usize, fields: Fields)
     requires { at + 20 ≤ length buf.old }
     ensures { buf.new ≡ put_in buf.old at (kept_bytes fields) }
@@ -30,6 +31,7 @@ fn put_kept(buf: &mut [u8], at: usize, fields: Fields)
 }
 
 // What stands before Data Size: signature, name, the kept fields.
+#[tactic(auto, using(parts::specs::Laws::Text::text_size_lem, crate::specs::Laws::Rule::front_put))]
 fn put_front(buf: &mut [u8], at: usize, name: &[u8], fields: Fields)
     requires { (is_text name.now ≡ true) × (at + 24 + length (text_bytes name.now) ≤ length buf.old) }
     ensures { (buf.new ≡ put_in buf.old at (front_bytes name.now fields)) × HandedFields fields }
@@ -41,6 +43,7 @@ fn put_front(buf: &mut [u8], at: usize, name: &[u8], fields: Fields)
 }
 
 // Data Size, the number of elements, the head of rule i and its only element.
+#[tactic(auto, using(crate::specs::Laws::Rule::back_put))]
 fn put_back(buf: &mut [u8], at: usize, i: u64, identifier: u32, s: &[u8])
     requires { at + 10 + length (head_bytes i) + length s.now ≤ length buf.old }
     ensures { buf.new ≡ put_in buf.old at (back_bytes i identifier s.now) }
@@ -53,6 +56,7 @@ fn put_back(buf: &mut [u8], at: usize, i: u64, identifier: u32, s: &[u8])
 }
 
 // Behind the rules of the deck that was found.
+#[tactic(auto, using(room::specs::Laws::Room::roomy, parts::specs::Laws::Text::text_small, parts::specs::Laws::Text::text_size_lem, crate::specs::Laws::Rule::extend_out, crate::specs::Laws::Rule::extend_done))]
 fn extend(
     buf: &mut [u8],
     site: Site,
@@ -66,14 +70,11 @@ fn extend(
 {
     let at = site.bytes + 24 + parts::text_size(name);
     let end = at + 10 + head::head_size(site.rules) + s.len();
-    let o = room::room_for(site.rules + 1, end + deck::wide_of(site.version), buf.len());
-    let Outcome::Done(_) = o else {
-        return o;
-    };
+    let size = room::room_for(site.rules + 1, end + deck::wide_of(site.version), buf.len())?;
     put_front(buf, site.bytes, name, fields);
     put_back(buf, at, site.rules, identifier, s);
     plan::finish(buf, site, site.rules + 1, end);
-    o
+    Ok(size)
 }
 
 // What is given judged, then the rest.
@@ -91,12 +92,9 @@ fn rule_in(
 {
     let text = given::is_text(name);
     if !text {
-        return Outcome::No(Fault::Text, 0);
+        return Err(Refusal::At(Fault::Text, 0));
     }
-    let x = given::given_element(product, identifier, s);
-    let Read::Got(_, _) = x else {
-        return format::in_given(format::end_says(x));
-    };
+    format::in_given(given::given_element(product, identifier, s))?;
     extend(buf, site, name, fields, identifier, s)
 }
 
@@ -112,13 +110,9 @@ pub fn add_rule(
 ) -> Outcome
     ensures { Edits edition n (add_rule name.now fields identifier s.now) buf.old result buf.new }
 {
-    let o = kind::edition_of(edition);
-    let Edition::Of(product) = o else {
-        return Outcome::No(Fault::Edition, 0);
+    let Some(product) = kind::edition_of(edition) else {
+        return Err(Refusal::At(Fault::Edition, 0));
     };
-    let f = plan::find_last(edition, buf, n);
-    let Spot::Is(site) = f else {
-        return spot::spot_says(f);
-    };
+    let site = plan::find_last(edition, buf, n)?;
     rule_in(buf, site, product, name, fields, identifier, s)
 }

@@ -4,7 +4,6 @@ use Rattle.format.specs.declared.Fault.{Fault}
 use Rattle.format.specs.Fault.{number_of}
 use Rattle.plan.specs.Edit.{Edit, switch, rename, remove, insert, add_rule, add_element, add_word}
 use Rattle.bounds.specs.Listed.{Numbers, numbers, exactly}
-use Rattle.text.specs.Text.{word}
 
 -- the last place that a reading of an element's data can come to
 abbrev pub most : ℕ

@@ -1,8 +1,9 @@
 -- Every refusal is one of document 01's table, "Numbers a refusal gives": by a number that its call may give, at the place that its row has.
 -- Of a place that is a field's (3, 6 to 13 and 29), only that it is at most 60,000.
-use Rattle.std.specs.Prelude.{ℕ, ◌+◌, ◌≤◌, ◌≡◌, Bool, true, false, ◌&&◌, ◌||◌, List, [], ◌∷◌, leb, eqb}
+use Rattle.std.specs.Prelude.{ℕ, ◌+◌, ◌≤◌, ◌≡◌, Bool, true, false, ◌&&◌, ◌||◌, List, [], ◌∷◌, leb, eqb, Ok, Err}
 use Rattle.format.specs.declared.Fault.{Fault}
-use Rattle.format.specs.declared.Outcome.{Outcome}
+use Rattle.format.specs.Answers.{Outcome}
+use Rattle.format.specs.declared.Refusal.TheVariants.{At, Given}
 use Rattle.format.specs.Fault.{number_of}
 use Rattle.format.specs.ReadWrite.{within}
 
@@ -66,6 +67,6 @@ allowed (exactly m o ∷ rows) n q = (eqb n m && eqb q o) || allowed rows n q
 
 -- an answer, if it is a refusal, is one of the table: "34 to 45: 2 to 13 plus 32, the same fault", and so 61, at a place "there"
 abbrev pub Lists : List Numbers → Outcome → Type 0
-Lists rows (Outcome.Done n) = Unit {0}
-Lists rows (Outcome.No c q) = (allowed rows (number_of c) q ≡ true) × Listed c q
-Lists rows (Outcome.Given c q) = (allowed rows (number_of c + 32) q ≡ true) × Listed c q
+Lists rows (Ok n) = Unit {0}
+Lists rows (Err (At c q)) = (allowed rows (number_of c) q ≡ true) × Listed c q
+Lists rows (Err (Given c q)) = (allowed rows (number_of c + 32) q ≡ true) × Listed c q

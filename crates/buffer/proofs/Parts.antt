@@ -33,6 +33,11 @@ put_tail d ys s at e h =
     let y : ys ≡ s ++ drop (at + length s) d = e ∙ rw (tail_is at d, zero-add, drop-drop) in
     rw (part_back at (length d) d (omega arith), drop-length, append-nil, put_in_lem d at s h) (rw y)
 
+-- bytes put in the place of as many
+pub put_part : (d ys s : List ℕ) (at n : ℕ) → ys ≡ s → length s ≡ n → at + n ≤ length d → take at d ++ (ys ++ drop (at + n - at) (drop at d)) ≡ put_in d at s
+unfolding put
+put_part d ys s at n e l h = rw (part_back at (at + n) d (omega arith), put_in_lem d at s (omega arith)) (rw (e, l))
+
 pub part_moved : (f : List ℕ → List ℕ) (d ys : List ℕ) (a e : ℕ) → ys ≡ f (take (e - a) (drop a d)) → a ≤ e → e ≤ length d
     → take a d ++ (ys ++ drop (e - a) (drop a d)) ≡ moved f a e d
 part_moved f d ys a e i h k = rw (moved_in d f a e h k, part_back a e d h, i)

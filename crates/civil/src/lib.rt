@@ -33,18 +33,12 @@ fn row_of(y: u64) -> usize
     0
 }
 
-fn wide(x: u8) -> u64
-    ensures { result ≡ x }
-{
-    x as u64
-}
-
 fn month_days(y: u64, m: usize) -> u64
     requires { m < 12 }
     ensures { result ≡ month_days y m }
 {
     let i = row_of(y);
-    wide(LENGTHS[i][m])
+    u64::from(LENGTHS[i][m])
 }
 
 fn year_days(y: u64) -> u64

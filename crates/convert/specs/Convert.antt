@@ -1,10 +1,10 @@
 -- Deck version 2 and back: document 02, W10. A conversion reads a deck of one version and writes the deck of the same rules in another.
-use Rattle.std.specs.Prelude.{ℕ, ◌≡◌, List, leb, eqb, length, take}
+use Rattle.std.specs.Prelude.{ℕ, ◌≡◌, List, leb, eqb, length, take, Some, None}
 use Rattle.format.specs.declared.Fault.TheVariants as Fault
-use Rattle.format.specs.declared.Outcome.{Outcome}
+use Rattle.kind.specs.Answers.{Edition}
+use Rattle.format.specs.Answers.{Outcome}
 use Rattle.format.specs.Format.{Answer, got, refused, pick}
 use Rattle.kind.specs.declared.Product.{Product}
-use Rattle.kind.specs.declared.Edition.{Edition}
 use Rattle.kind.specs.Kinds.{edition_of}
 use Rattle.rule.specs.Rule.{Rule}
 use Rattle.deck.specs.Deck.{Deck, version, read_as}
@@ -25,8 +25,8 @@ in_other u cap (got k n) = in_room cap (become (deck_of u k.rules))
 in_other u cap (refused c q) = refuse c q
 
 abbrev pub plan_other : Edition → ℕ → ℕ → ℕ → List ℕ → Plan Deck
-plan_other (Edition.Of p) v u cap s = in_other u cap (read_only p v s)
-plan_other Edition.Unknown v u cap s = refuse Fault.Edition 0
+plan_other (Some p) v u cap s = in_other u cap (read_only p v s)
+plan_other None v u cap s = refuse Fault.Edition 0
 
 unfoldable pub other_plan : ℕ → ℕ → ℕ → ℕ → List ℕ → Plan Deck
 other_plan edition v u cap s = plan_other (edition_of edition) v u cap s
@@ -39,6 +39,6 @@ Converts edition v u s d r d' = (r ≡ says (other_plan edition v u (length d) s
 pub record Converted (edition v u : ℕ) (s : List ℕ) (m : ℕ) (d : List ℕ) : Type 0 where
   pub product : Product
   pub rules : List Rule
-  pub known : edition_of edition ≡ Edition.Of product
+  pub known : edition_of edition ≡ Some product
   pub was : read_as product s ≡ got (deck_of v rules) (length s)
   pub is : read_as product (take m d) ≡ got (deck_of u rules) m

@@ -5,21 +5,20 @@ ghost use Rattle.std.specs.Prelude.{◌≤◌, ◌≡◌, length};
 ghost use Rattle.convert.specs.Convert.{Converts};
 ghost use Rattle.convert.specs.Laws.Convert.{taken_in, headed, Rewrites};
 
-use format::{Fault, Outcome, Read};
-use kind::Edition;
-use scan::Scan;
+use format::{Fault, Outcome, Read, Refusal};
 
 // Whether no other version was read.
 fn takes(h: Read, version: u64) -> bool
     ensures { result ≡ taken_in version h }
 {
     match h {
-        Read::Got(_, v) => v == version,
-        Read::No(_, _) => true,
+        Ok((_, v)) => v == version,
+        Err(_) => true,
     }
 }
 
 // Mark, version and number of rules.
+#[tactic(auto, using(crate::specs::Laws::Convert::headed_put))]
 fn put_header(buf: &mut [u8], version: u64, n: u64)
     ensures { buf.new ≡ headed version n buf.old }
 {
@@ -29,42 +28,36 @@ fn put_header(buf: &mut [u8], version: u64, n: u64)
 }
 
 // The n rules of a sound deck, which start at base, in a version.
+#[tactic(auto, using(deck::specs::Laws::Deck::index_small, crate::specs::Laws::Convert::length_take_drop, crate::specs::Laws::Convert::rewrite_out, crate::specs::Laws::Convert::rewrite_two, crate::specs::Laws::Convert::rewrite_plain))]
 fn rewrite(s: &[u8], base: usize, n: u64, buf: &mut [u8], version: u64) -> Outcome
     requires { (base ≤ length s.now) × (length s.now ≤ 60000) × (n ≤ 256) }
     ensures { Rewrites s.now base n version buf.old result buf.new }
 {
     let start = 7 + deck::wide_of(version) * (n as usize);
     let rules = &s[base..];
-    let o = room::room_for(n, start + rules.len(), buf.len());
-    let Outcome::Done(_) = o else {
-        return o;
-    };
+    let size = room::room_for(n, start + rules.len(), buf.len())?;
     put_header(buf, version, n);
     buffer::put_bytes(buf, start, rules);
     if version == 2 {
         offsets::put_offsets(buf, n);
     }
-    o
+    Ok(size)
 }
 
 // A deck of one version alone, in another.
 fn convert(edition: u64, s: &[u8], buf: &mut [u8], from: u64, to: u64) -> Outcome
     ensures { Converts edition from to s.now buf.old result buf.new }
 {
-    let e = kind::edition_of(edition);
-    let Edition::Of(_) = e else {
-        return Outcome::No(Fault::Edition, 0);
+    let Some(_) = kind::edition_of(edition) else {
+        return Err(Refusal::At(Fault::Edition, 0));
     };
     if 60000 < s.len() {
-        return Outcome::No(Fault::Long, 60000);
+        return Err(Refusal::At(Fault::Long, 60000));
     }
     if !takes(deck::version_at(s), from) {
-        return Outcome::No(Fault::Version, 3);
+        return Err(Refusal::At(Fault::Version, 3));
     }
-    let c = deck::pass(edition, s);
-    let Scan::Is(_, base, n, _) = c else {
-        return scan::scan_says(c);
-    };
+    let (_, base, n, _) = deck::pass(edition, s)?;
     rewrite(s, base, n, buf, to)
 }
 

@@ -1,16 +1,16 @@
 -- The view of a word within its data: document 01, "Tables and views".
-use Rattle.std.specs.Prelude.{ℕ, ◌+◌, List, [], ◌∷◌, drop}
+use Rattle.std.specs.Prelude.{ℕ, ◌+◌, List, [], ◌∷◌, drop, Err}
 use Rattle.format.specs.declared.Fault.TheVariants as Fault
 use Rattle.format.specs.Row.{start_in}
 use Rattle.text.specs.Text.{Text, word}
 use Rattle.element.specs.Data.{Data, words_of}
-use Rattle.view.specs.declared.View.{View}
-use Rattle.view.specs.declared.View.TheVariants.{No}
+use Rattle.view.specs.Answers.{View}
+use Rattle.format.specs.declared.Refusal.TheVariants.{At}
 use Rattle.view.specs.View.{text_view}
 
 -- the first of the words that stand from a place on: its String, behind 4 zero bytes; "no such .. word": 16 at 2
 abbrev pub word_at : ℕ → List Text → View
-word_at at [] = No Fault.Absent 2
+word_at at [] = Err (At Fault.Absent 2)
 word_at at (t ∷ ws) = text_view (at + 4) t
 
 -- word w of data that start at a place, behind the count; "or no word list there": other data have no words

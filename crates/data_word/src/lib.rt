@@ -10,7 +10,7 @@ ghost use Rattle.data_word.specs.Laws.Word.{Words};
 ghost use Rattle.data_word.specs.Word.{data_word};
 ghost use Rattle.view.specs.Laws.View.{Inside};
 
-use format::{Fault, Read};
+use format::{Fault, Read, Refusal};
 use kind::Kind;
 use view::View;
 
@@ -18,27 +18,14 @@ use view::View;
 fn word_start(s: &[u8], at: usize, w: u64) -> Read
     ensures { Skipped (λ i. word) s.now at w w result }
 {
-    let mut i = 0;
-    let mut p = at;
-    while i < w {
-        let r = text::word_end(s, p);
-        let Read::Got(q, _) = r else {
-            return r;
-        };
-        p = q;
-        i += 1;
-    }
-    Read::Got(p, 0)
+    each::each_at(|p, _| text::word_end(s, p), at, w)
 }
 
 // Word w of a row of words.
 fn word_in(s: &[u8], at: usize, w: u64) -> View
     ensures { Words s.now at w result × Inside result (length s.now) }
 {
-    let r = word_start(s, at, w);
-    let Read::Got(q, _) = r else {
-        return view::no_view(format::end_says(r));
-    };
+    let (q, _) = word_start(s, at, w)?;
     let t = text::word_at(s, q);
     view::units_of(s, t)
 }
@@ -47,12 +34,9 @@ fn word_in(s: &[u8], at: usize, w: u64) -> View
 fn list_word(s: &[u8], at: usize, w: u64) -> View
     ensures { Where word_data s.now at (data_word w at) result × Inside result (length s.now) }
 {
-    let c = wire::u32_at(s, at);
-    let Read::Got(p, n) = c else {
-        return view::no_view(format::end_says(c));
-    };
+    let (p, n) = wire::u32_at(s, at)?;
     if n <= w {
-        return View::No(Fault::Absent, 2);
+        return Err(Refusal::At(Fault::Absent, 2));
     }
     word_in(s, p, w)
 }
@@ -63,9 +47,9 @@ pub fn data_word(s: &[u8], at: usize, kind: Kind, w: u64) -> View
 {
     match kind {
         Kind::WordList => list_word(s, at, w),
-        Kind::Marker => View::No(Fault::Absent, 2),
-        Kind::Simple(_) => View::No(Fault::Absent, 2),
-        Kind::Size(_) => View::No(Fault::Absent, 2),
-        Kind::Dates(_) => View::No(Fault::Absent, 2),
+        Kind::Marker => Err(Refusal::At(Fault::Absent, 2)),
+        Kind::Simple(_) => Err(Refusal::At(Fault::Absent, 2)),
+        Kind::Size(_) => Err(Refusal::At(Fault::Absent, 2)),
+        Kind::Dates(_) => Err(Refusal::At(Fault::Absent, 2)),
     }
 }

@@ -8,7 +8,7 @@ ghost use Rattle.format.specs.Laws.Seen.{seen, itself};
 ghost use Rattle.date.specs.Double.{accepted};
 ghost use Rattle.date.specs.Date.{date};
 
-use format::{Fault, Read};
+use format::{Fault, Read, Refusal};
 
 // Whether a float is a date; a not-a-number passes no comparison.
 pub fn in_range(days: f64) -> bool
@@ -35,11 +35,11 @@ pub fn date_at(s: &[u8], at: usize) -> Read
     ensures { result ≡ seen itself date s.now at }
 {
     let r = wire::u64_at(s, at);
-    let Read::Got(_, bits) = r else {
+    let Ok((_, bits)) = r else {
         return r;
     };
     if is_date(bits) {
         return r;
     }
-    Read::No(at, Fault::Date)
+    Err(Refusal::At(Fault::Date, at))
 }

@@ -1,18 +1,18 @@
 -- The deck, and its reading whole: document 01, "The deck" and "Numbers a refusal gives".
-use Rattle.std.specs.Prelude.{ℕ, ◌+◌, ◌*◌, refl, List, [], ◌∷◌, length, leb, eqb}
+use Rattle.std.specs.Prelude.{ℕ, ◌+◌, ◌*◌, refl, List, [], ◌∷◌, length, leb, eqb, Ok, Err, Some, None}
 use Rattle.format.specs.declared.Fault.{Fault}
-use Rattle.format.specs.declared.Outcome.{Outcome}
-use Rattle.format.specs.declared.Outcome.TheVariants.{Done, No}
+use Rattle.kind.specs.Answers.{Edition}
+use Rattle.format.specs.Answers.{Outcome}
+use Rattle.scan.specs.Answers.{Scan}
+use Rattle.format.specs.declared.Refusal.TheVariants.{At}
 use Rattle.format.specs.Format.{Answer, got, refused, Format, pick, whole}
 use Rattle.format.specs.ReadWrite.{within}
 use Rattle.format.specs.Combinators.{pair, judged, via, ◌then◌, number, count, bytes, counted}
 use Rattle.format.specs.Indexed.{indexed}
 use Rattle.format.specs.Row.{total}
 use Rattle.kind.specs.declared.Product.{Product}
-use Rattle.kind.specs.declared.Edition.{Edition}
 use Rattle.kind.specs.Kinds.{edition_of}
 use Rattle.rule.specs.Rule.{Rule, rule, elements_in}
-use Rattle.scan.specs.declared.Scan.{Scan}
 
 -- mark `RDK`
 unfoldable pub mark : List ℕ
@@ -49,16 +49,16 @@ read_as p s = pick (leb (length s) 60000) (whole (length s) ((deck p).read s)) (
 
 -- "A read judges 1, then 2"
 unfoldable pub read_by : Edition → List ℕ → Answer Deck
-read_by (Edition.Of p) s = read_as p s
-read_by Edition.Unknown s = refused Fault.Edition 0
+read_by (Some p) s = read_as p s
+read_by None s = refused Fault.Edition 0
 
 unfoldable pub read_deck : ℕ → List ℕ → Answer Deck
 read_deck edition s = read_by (edition_of edition) s
 
 -- "for a read it is the number of rules"
 abbrev pub answered : Answer Deck → Outcome
-answered (got k n) = Done (length k.rules)
-answered (refused c p) = No c p
+answered (got k n) = Ok (length k.rules)
+answered (refused c p) = Err (At c p)
 
 -- the rules, n of them, start behind the offsets
 unfoldable pub base_of : ℕ → ℕ → ℕ
@@ -66,5 +66,5 @@ base_of v n = 7 + wide v * n
 
 -- a pass over the deck tells its version, where the rules start, their number and that of their elements
 abbrev pub scanned : Answer Deck → Scan
-scanned (got k n) = Scan.Is k.version (base_of k.version (length k.rules)) (length k.rules) (total elements_in k.rules)
-scanned (refused c p) = Scan.No c p
+scanned (got k n) = Ok (k.version, base_of k.version (length k.rules), length k.rules, total elements_in k.rules)
+scanned (refused c p) = Err (At c p)

@@ -12,8 +12,8 @@ ghost use Rattle.scan.specs.Scan.{scan_says};
 ghost use Rattle.deck.specs.Deck.{version, wide, read_as, read_deck, scanned, answered};
 ghost use Rattle.deck.specs.Laws.Deck.{Turn};
 
-use format::{Fault, Outcome, Read};
-use kind::{Edition, Product};
+use format::{Fault, Outcome, Read, Refusal};
+use kind::Product;
 use scan::Scan;
 
 // Mark and version; the value is the version.
@@ -21,18 +21,18 @@ pub fn version_at(s: &[u8]) -> Read
     ensures { result ≡ seen itself version s.now 0 }
 {
     let m = field::fixed24_at(s, 0, 0x4B_4452, Fault::Mark);
-    let Read::Got(p, _) = m else {
+    let Ok((p, _)) = m else {
         return m;
     };
     let v = wire::u16_at(s, p);
-    let Read::Got(_, n) = v else {
+    let Ok((_, n)) = v else {
         return v;
     };
     if n < 1 {
-        return Read::No(p, Fault::Version);
+        return Err(Refusal::At(Fault::Version, p));
     }
     if 2 < n {
-        return Read::No(p, Fault::Version);
+        return Err(Refusal::At(Fault::Version, p));
     }
     v
 }
@@ -53,7 +53,7 @@ fn index_at(s: &[u8], version: u64, n: u64) -> Read
     ensures { result ≡ seen none (each (λ i. number (wide version)) 0 n) s.now 7 }
 {
     if version != 2 {
-        return Read::Got(7, 0);
+        return Ok((7, 0));
     }
     wire::numbers_at(s, 7, n as u16)
 }
@@ -67,7 +67,7 @@ fn starts_at(s: &[u8], version: u64, i: u64, p: usize) -> bool
         return true;
     }
     let o = wire::u32_at(s, 7 + 4 * (i as usize));
-    let Read::Got(_, x) = o else {
+    let Ok((_, x)) = o else {
         return false;
     };
     x == p as u64
@@ -78,22 +78,20 @@ fn rules_at(s: &[u8], base: usize, product: Product, version: u64, n: u64) -> Re
     requires { Turn product version n s.now 0 0 base × (n ≤ 256) × (length s.now ≤ 60000) }
     ensures { result ≡ seen (total elements_in) (indexed (wide version) 7 Fault.Offset (rule product) n) s.now 7 }
 {
-    let mut i = 0;
     let mut t = 0;
     let mut p = base;
-    while i < n {
+    for i in 0..n {
         if !starts_at(s, version, i, p) {
-            return Read::No(7 + 4 * (i as usize), Fault::Offset);
+            return Err(Refusal::At(Fault::Offset, 7 + 4 * (i as usize)));
         }
         let r = whole_rule::rule_at(s, p, product, i);
-        let Read::Got(q, v) = r else {
+        let Ok((q, v)) = r else {
             return r;
         };
         t += v;
         p = q;
-        i += 1;
     }
-    Read::Got(p, t)
+    Ok((p, t))
 }
 
 // A pass over a deck by a product: 2 first, 13 last.
@@ -101,37 +99,24 @@ fn pass_as(product: Product, s: &[u8]) -> Scan
     ensures { result ≡ scanned (read_as product s.now) }
 {
     if 60000 < s.len() {
-        return Scan::No(Fault::Long, 60000);
+        return Err(Refusal::At(Fault::Long, 60000));
     }
-    let h = version_at(s);
-    let Read::Got(p, version) = h else {
-        return scan::no_scan(format::end_says(h));
-    };
-    let c = field::count16_at(s, p, 0, 256);
-    let Read::Got(_, n) = c else {
-        return scan::no_scan(format::end_says(c));
-    };
-    let x = index_at(s, version, n);
-    let Read::Got(base, _) = x else {
-        return scan::no_scan(format::end_says(x));
-    };
-    let r = rules_at(s, base, product, version, n);
-    let Read::Got(q, t) = r else {
-        return scan::no_scan(format::end_says(r));
-    };
+    let (p, version) = version_at(s)?;
+    let (_, n) = field::count16_at(s, p, 0, 256)?;
+    let (base, _) = index_at(s, version, n)?;
+    let (q, t) = rules_at(s, base, product, version, n)?;
     if q != s.len() {
-        return Scan::No(Fault::Over, q);
+        return Err(Refusal::At(Fault::Over, q));
     }
-    Scan::Is(version, base, n, t)
+    Ok((version, base, n, t))
 }
 
 // A pass over a deck.
 pub fn pass(edition: u64, s: &[u8]) -> Scan
     ensures { (result ≡ scanned (read_deck edition s.now)) × (scan_says result ≡ answered (read_deck edition s.now)) }
 {
-    let e = kind::edition_of(edition);
-    let Edition::Of(product) = e else {
-        return Scan::No(Fault::Edition, 0);
+    let Some(product) = kind::edition_of(edition) else {
+        return Err(Refusal::At(Fault::Edition, 0));
     };
     pass_as(product, s)
 }

@@ -1,5 +1,5 @@
 -- The cases of document 01 that are marked P, and of document 02, W10, as one computed table: decks, identifiers, dates.
-use Rattle.std.specs.Prelude.{ℕ, ◌+◌, ◌-◌, ◌*◌, ◌≡◌, refl, Bool, true, false, not, ◌&&◌, List, [], ◌∷◌, drop, T, eqb, leb}
+use Rattle.std.specs.Prelude.{ℕ, ◌+◌, ◌-◌, ◌*◌, ◌≡◌, refl, Bool, true, false, not, ◌&&◌, List, [], ◌∷◌, drop, T, eqb, leb, Ok, Err}
 use Rattle.std.proofs.Common.{eqb→eq, leb→le}
 use Rattle.std.specs.Float.Ieee.Bits.{is_true}
 use Rattle.std.specs.Float.Ieee.Fits.{and_l, and_r}
@@ -9,7 +9,8 @@ use Rattle.format.specs.Fault.{code_of, place_of, Said}
 use Rattle.civil.specs.declared.Civil.{Civil}
 use Rattle.civil.specs.Calendar.{leap, month_days, months_days, years_days, Valid, day_of}
 use Rattle.date.specs.Double.{negative, size, day, accepted}
-use Rattle.moment.specs.declared.Moment.{Moment}
+use Rattle.moment.specs.Answers.{Moment}
+use Rattle.format.specs.declared.Refusal.TheVariants.{At}
 use Rattle.moment.specs.Moment.{origin, day_in, second_in, moment_says, Says}
 use Rattle.moment.specs.Laws.Moment.{says_at, says_no}
 use Rattle.kind.specs.declared.Role.TheVariants.{Condition}
@@ -150,7 +151,7 @@ module _ (x : Bool × ℕ) (bits : ℕ) where
       let c : Civil = record { year = y; month = m; day = d } in
       let v : Valid c = record { year = leb→le 100 y y100; month_low = leb→le 1 m m1; month_high = leb→le m 12 m12; day_low = leb→le 1 d d1; day_high = leb→le d (month_days y (m - 1)) dn } in (
         (e, eqb→eq (size bits * 4) (x.1 * day) z),
-        (Moment.At c second, (says_at bits c second (is_true (accepted bits) a) (v, eqb→eq (day_of c) (day_in bits) n) (eqb→eq second (second_in bits) t), refl)),
+        (Ok (c, second), (says_at bits c second (is_true (accepted bits) a) (v, eqb→eq (day_of c) (day_in bits) n) (eqb→eq second (second_in bits) t), refl)),
       )
 
   date_on : (y m d second : ℕ) → negative bits ≡ x.0 → T (every (on_tests y m d second)) → Answers (date_of x bits) (on y m d second)
@@ -159,7 +160,7 @@ module _ (x : Bool × ℕ) (bits : ℕ) where
   date_no : negative bits ≡ x.0 → T (every no_tests) → Answers (date_of x bits) (says 11 0)
   date_no e t =
       let b = all no_tests t in
-      ((e, eqb→eq (size bits * 4) (x.1 * day) b.0), (Moment.No Fault.Date 0, (says_no bits (not-true (accepted bits) (is_true (not (accepted bits)) b.1.0)), refl)))
+      ((e, eqb→eq (size bits * 4) (x.1 * day) b.0), (Err (At Fault.Date 0), (says_no bits (not-true (accepted bits) (is_true (not (accepted bits)) b.1.0)), refl)))
 
 pub cases_hold : AllAnswer cases
 unfolding ComputingDecks sample day leap months_days years_days day_of origin day_in second_in

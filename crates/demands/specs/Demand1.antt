@@ -1,17 +1,18 @@
 -- Demand 1: each call takes all byte strings, lengths and numbers, and does its work or refuses by a number and a place from document 01's
 -- table; a refused call leaves every lent buffer and table exactly as found. That each call ends, and takes all input, is what a proved
 -- function without a `requires` is; what follows is said of the promises.
-use Rattle.std.specs.Prelude.{ℕ, ◌+◌, ◌<◌, ◌≡◌, refl, Bool, true, false, List, [], ◌∷◌, leb, length}
+use Rattle.std.specs.Prelude.{ℕ, ◌+◌, ◌<◌, ◌≡◌, refl, Bool, true, false, List, [], ◌∷◌, leb, length, Ok, Err, Some, None}
 use Rattle.std.proofs.Common.{arith, ◌∙◌}
 use Rattle.format.specs.declared.Fault.TheVariants as Fault
-use Rattle.format.specs.declared.Outcome.{Outcome}
+use Rattle.kind.specs.Answers.{Edition}
+use Rattle.format.specs.Answers.{Outcome}
+use Rattle.format.specs.declared.Refusal.TheVariants.{At, Given}
 use Rattle.format.specs.Fault.{number_of, code_of, Said}
 use Rattle.format.specs.Format.{Answer, pick, Bytes}
 use Rattle.format.specs.Laws.Format.{one}
 use Rattle.buffer.specs.Laid.{put}
 use Rattle.room.specs.Laws.Room.{room_judged}
 use Rattle.kind.specs.declared.Product.{Product}
-use Rattle.kind.specs.declared.Edition.{Edition}
 use Rattle.kind.specs.Kinds.{edition_of, kind_of}
 use Rattle.date.specs.Double.{accepted}
 use Rattle.moment.specs.Moment.{SaysBy}
@@ -71,13 +72,13 @@ pub read_as_found : (edition : ℕ) (s rules elements : List ℕ) → 0 < code_o
 read_as_found edition s rules elements = by (edition_of edition)
   where
     left : (a : Answer Deck) (o : Outcome) → 0 < code_of o → (p : Product) → (rules_left p o a rules ≡ rules) × (elements_left p o a elements ≡ elements)
-    left a (Outcome.Done n) h p = absurd (omega arith)
-    left a (Outcome.No c q) h p = (refl, refl)
-    left a (Outcome.Given c q) h p = (refl, refl)
+    left a (Ok n) h p = absurd (omega arith)
+    left a (Err (At c q)) h p = (refl, refl)
+    left a (Err (Given c q)) h p = (refl, refl)
 
     by : (o : Edition) → 0 < code_of (read_says o (length rules) (length elements) s) → (rules_after o s rules elements ≡ rules) × (elements_after o s rules elements ≡ elements)
-    by (Edition.Of p) h = left (read_as p s) (tabled (length rules) (length elements) (read_as p s)) h p
-    by Edition.Unknown h = (refl, refl)
+    by (Some p) h = left (read_as p s) (tabled (length rules) (length elements) (read_as p s)) h p
+    by None h = (refl, refl)
 
 -- a refused value, and a refused start, leave the buffer as found
 pub put_as_found : (edition id : ℕ) (v : Value) (buf : List ℕ) → 0 < code_of (put_says (putting edition id v (length buf))) → put_leaves buf (putting edition id v (length buf)) ≡ buf
@@ -167,21 +168,21 @@ hand_moments_coincide bits t {r} {a = a} f g =
 -- a refused one leaves it as found
 pub result_as_found : (width : ℕ) (t : List ℕ) (x : Said) → 0 < code_of (lent_says width (length t) x) → lent_leaves width t x ≡ t
 unfolding lent_says lent_leaves pick
-result_as_found width t (Outcome.Done n, vs) h = go (leb width (length t)) h
+result_as_found width t (Ok n, vs) h = go (leb width (length t)) h
   where
-    go : (b : Bool) → 0 < code_of (pick b (Outcome.Done n) (Outcome.No Fault.Table 0)) → pick b (put t 0 vs) t ≡ t
+    go : (b : Bool) → 0 < code_of (pick b (Ok n) (Err (At Fault.Table 0))) → pick b (put t 0 vs) t ≡ t
     go true h = absurd (omega arith)
     go false h = refl
-result_as_found width t (Outcome.No c q, vs) h = refl
-result_as_found width t (Outcome.Given c q, vs) h = refl
+result_as_found width t (Err (At c q), vs) h = refl
+result_as_found width t (Err (Given c q), vs) h = refl
 
 -- and it refuses as the call without a table does, or with 14 at 0
 pub result_refuses : (rows : List Numbers) (width room : ℕ) (x : Said) → Lists rows x.0 → Lists (exactly 14 0 ∷ rows) (lent_says width room x)
 unfolding lent_says pick allowed
-result_refuses rows width room (Outcome.Done n, vs) f = go (leb width room)
+result_refuses rows width room (Ok n, vs) f = go (leb width room)
   where
-    go : (b : Bool) → Lists (exactly 14 0 ∷ rows) (pick b (Outcome.Done n) (Outcome.No Fault.Table 0))
+    go : (b : Bool) → Lists (exactly 14 0 ∷ rows) (pick b (Ok n) (Err (At Fault.Table 0)))
     go true = tt
     go false = (refl, omega arith)
-result_refuses rows width room (Outcome.No c q, vs) f = (allowed_later (exactly 14 0) rows (number_of c) q f.0, f.1)
-result_refuses rows width room (Outcome.Given c q, vs) f = (allowed_later (exactly 14 0) rows (number_of c + 32) q f.0, f.1)
+result_refuses rows width room (Err (At c q), vs) f = (allowed_later (exactly 14 0) rows (number_of c) q f.0, f.1)
+result_refuses rows width room (Err (Given c q), vs) f = (allowed_later (exactly 14 0) rows (number_of c + 32) q f.0, f.1)

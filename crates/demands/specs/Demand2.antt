@@ -1,18 +1,17 @@
 -- Demand 2: what is read, written again, gives the same bytes; what is written reads back as given; an identifier is judged on all 32 bits
 -- and by the product. Of tables and views: Tables.antt, Views.antt. Document 02, W10: "Demands 2 and 3 read the same" for version 2, and a deck
 -- converted there and back is the same bytes.
-use Rattle.std.specs.Prelude.{ℕ, ◌≤◌, ◌≡◌, refl, Bool, true, false, ◌||◌, List, [], ◌∷◌, ◌++◌, length, take, drop, eqb}
+use Rattle.std.specs.Prelude.{ℕ, ◌≤◌, ◌≡◌, refl, Bool, true, false, ◌||◌, List, [], ◌∷◌, ◌++◌, length, take, drop, eqb, Ok, Err}
 use Rattle.std.proofs.Common.{arith}
 use Rattle.format.specs.declared.Fault.TheVariants as Fault
-use Rattle.format.specs.declared.Outcome.{Outcome}
-use Rattle.format.specs.declared.Outcome.TheVariants.{Done}
+use Rattle.format.specs.Answers.{Outcome}
+use Rattle.format.specs.declared.Refusal.TheVariants.{At}
 use Rattle.format.specs.Format.{got, refused, Bytes, pick}
 use Rattle.kind.specs.declared.Product.{Product}
 use Rattle.kind.specs.declared.Product.TheVariants.{Desk, Studio}
 use Rattle.kind.specs.declared.Role.TheVariants.{Condition, Exception}
 use Rattle.kind.specs.declared.Kind.{Kind}
 use Rattle.kind.specs.declared.Kind.TheVariants.{Simple}
-use Rattle.kind.specs.declared.Row.TheVariants.{Is, No}
 use Rattle.kind.specs.Kinds.{kinds, has, in_product, identifiers, row_in, offered, row_of}
 use Rattle.element.specs.Element.{is_row}
 use Rattle.deck.specs.Deck.{Deck, version, deck, read_as}
@@ -29,7 +28,7 @@ pub read_then_written : (p : Product) (s : List ℕ) (k : Deck) (n : ℕ) → By
 read_then_written p s k n b e = (read_writes_back p s k n b e).is
 
 -- ---- document 02, W10: "Convert 1 to 2 and 2 to 1". s was converted from version v to u, into the first m bytes of the buffer d, which became d'
-module _ (edition v u : ℕ) (s d : List ℕ) {m : ℕ} {d' : List ℕ} (bs : Bytes s) (l : 1 ≤ u) (h : u ≤ 2) (c : Converts edition v u s d (Done m) d') where
+module _ (edition v u : ℕ) (s d : List ℕ) {m : ℕ} {d' : List ℕ} (bs : Bytes s) (l : 1 ≤ u) (h : u ≤ 2) (c : Converts edition v u s d (Ok m) d') where
   -- s was a deck of version v, and d' has that of the same rules in version u
   pub rules_kept : Converted edition v u s m d'
   rules_kept = converted edition v u s d c bs (version_fits u l h)
@@ -39,14 +38,14 @@ module _ (edition v u : ℕ) (s d : List ℕ) {m : ℕ} {d' : List ℕ} (bs : By
   rest_kept = past_kept edition v u s d c
 
   -- "there and back gives the same bytes, each way": into any buffer e that has room for s
-  pub same_bytes : (e : List ℕ) {r : Outcome} {e' : List ℕ} → Converts edition u v (take m d') e r e' → length s ≤ length e → (r ≡ Done (length s)) × (take (length s) e' ≡ s)
+  pub same_bytes : (e : List ℕ) {r : Outcome} {e' : List ℕ} → Converts edition u v (take m d') e r e' → length s ≤ length e → (r ≡ Ok (length s)) × (take (length s) e' ≡ s)
   same_bytes e b o = there_and_back edition v u s d e bs (version_fits u l h) c b o
 
 module _ (edition : ℕ) (s d e : List ℕ) {m : ℕ} {d' e' : List ℕ} {r : Outcome} (bs : Bytes s) where
-  pub from_one_and_back : Converts edition 1 2 s d (Done m) d' → Converts edition 2 1 (take m d') e r e' → length s ≤ length e → (r ≡ Done (length s)) × (take (length s) e' ≡ s)
+  pub from_one_and_back : Converts edition 1 2 s d (Ok m) d' → Converts edition 2 1 (take m d') e r e' → length s ≤ length e → (r ≡ Ok (length s)) × (take (length s) e' ≡ s)
   from_one_and_back = up_and_down edition s d e bs
 
-  pub from_two_and_back : Converts edition 2 1 s d (Done m) d' → Converts edition 1 2 (take m d') e r e' → length s ≤ length e → (r ≡ Done (length s)) × (take (length s) e' ≡ s)
+  pub from_two_and_back : Converts edition 2 1 s d (Ok m) d' → Converts edition 1 2 (take m d') e r e' → length s ≤ length e → (r ≡ Ok (length s)) × (take (length s) e' ≡ s)
   from_two_and_back = down_and_up edition s d e bs
 
 -- "A reader of the first release answers 5 to version 2": it takes version 1 alone
@@ -88,7 +87,7 @@ judged_in p [] id e = refl
 judged_in p ((k, ids) ∷ rows) id e = go (has ids id) (in_product p k) refl refl (judged_in p rows id e.1)
   where
     go : (b t : Bool) → has ids id ≡ b → in_product p k ≡ t → is_row (offered p (row_in rows id)) ≡ has (identifiers p rows) id
-        → is_row (offered p (pick b (Is k) (row_in rows id))) ≡ has (pick t ids [] ++ identifiers p rows) id
+        → is_row (offered p (pick b (Ok k) (row_in rows id))) ≡ has (pick t ids [] ++ identifiers p rows) id
     go true true f g i = rw (g, has_append ids (identifiers p rows) id, f)
     go true false f g i = rw (g, e.0 g)
     go false true f g i = rw (has_append ids (identifiers p rows) id, f) i
@@ -107,6 +106,6 @@ unfolding row_of
 judged_whole p id = judged_in p kinds id (ends p)
 
 -- F5 and 1F5 told apart: a condition in both products, and an exception that Desk does not have
-pub feeds_and_letters : (row_of Desk 0xF5 ≡ Is (Simple Condition)) × ((row_of Studio 0x1F5 ≡ Is (Simple Exception)) × (row_of Desk 0x1F5 ≡ No Fault.Foreign 0))
+pub feeds_and_letters : (row_of Desk 0xF5 ≡ Ok (Simple Condition)) × ((row_of Studio 0x1F5 ≡ Ok (Simple Exception)) × (row_of Desk 0x1F5 ≡ Err (At Fault.Foreign 0)))
 unfolding row_of offered row_in has pick
 feeds_and_letters = (refl, (refl, refl))

@@ -1,14 +1,14 @@
 -- Demand 3: from an accepted deck, after any run of edits, the buffer holds the deck that would be written afresh from the edited list of
 -- rules. Bytes past the longest deck length so far are never touched. Document 02, W10: the deck is of either version, and keeps it.
-use Rattle.std.specs.Prelude.{ℕ, ◌+◌, ◌≤◌, ◌≡◌, refl, List, [], eqb, length, take}
+use Rattle.std.specs.Prelude.{ℕ, ◌+◌, ◌≤◌, ◌≡◌, refl, List, [], eqb, length, take, Ok, Err, Some}
 use Rattle.std.proofs.Common.{arith, ap, ap₂, ◌∙◌, ne_eqb}
-use Rattle.format.specs.declared.Outcome.{Outcome}
+use Rattle.format.specs.Answers.{Outcome}
+use Rattle.format.specs.declared.Refusal.TheVariants.{At, Given}
 use Rattle.format.specs.Fault.{number_of, code_of, place_of, packed}
 use Rattle.format.specs.Laws.Fault.{numbered, packed_code, packed_place}
 use Rattle.format.specs.Format.{got, Bytes, pick}
 use Rattle.kind.specs.declared.Product.{Product}
 use Rattle.kind.specs.declared.Product.TheVariants.{Studio}
-use Rattle.kind.specs.declared.Edition.TheVariants as Edition
 use Rattle.kind.specs.Kinds.{edition_of}
 use Rattle.deck.specs.Deck.{Deck, read_as}
 use Rattle.deck.specs.Written.{deck_of}
@@ -30,9 +30,9 @@ unfolding pick
 length_sent_lem n o = rw (packed_code o, packed_place o) (go o)
   where
     go : (o : Outcome) → pick (eqb (code_of o) 0) (place_of o) n ≡ length_from n o
-    go (Outcome.Done m) = refl
-    go (Outcome.No c q) = rw (ne_eqb (number_of c) 0 (λ e. omega (arith, (numbered c).some)))
-    go (Outcome.Given c q) = rw (ne_eqb (number_of c + 32) 0 (λ e. omega arith))
+    go (Ok m) = refl
+    go (Err (At c q)) = rw (ne_eqb (number_of c) 0 (λ e. omega (arith, (numbered c).some)))
+    go (Err (Given c q)) = rw (ne_eqb (number_of c + 32) 0 (λ e. omega arith))
 
 pub sends_step : Steps Sends length_sent
 unfolding step
@@ -50,7 +50,7 @@ module _ {A : Type 0} {P : Promise A} {next : ℕ → A → ℕ} (is : Steps P n
   after_a_start cs e h = left_by is cs (at_start_lem Studio d e) h
 
   -- all in the edition that accepted the deck: the deck takes every edit
-  module _ (edition : ℕ) (p : Product) (ed : edition_of edition ≡ Edition.Of p) (es : List Edit) where
+  module _ (edition : ℕ) (p : Product) (ed : edition_of edition ≡ Some p) (es : List Edit) where
     pub in_one_edition : (n m : ℕ) (k : Deck) → Bytes d → n ≤ length d → read_as p (take n d) ≡ got k m → Ran P next (calls edition es) (d, n) b → Left p d (run_in p (length d) es (k, n)) b
     in_one_edition n m k bs l r h = left_in is edition es ed (at_accepted p d n m k bs l r) h
 

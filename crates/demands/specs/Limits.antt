@@ -1,5 +1,5 @@
 -- How many elements a deck can have: behind the 7 bytes or more before the rules each takes at least 10, so they are at most 5,999.
-use Rattle.std.specs.Prelude.{ℕ, ◌+◌, ◌*◌, ◌≤◌, ◌<◌, ◌≡◌, List, [], ◌∷◌, ◌++◌, length}
+use Rattle.std.specs.Prelude.{ℕ, ◌+◌, ◌*◌, ◌≤◌, ◌<◌, ◌≡◌, List, [], ◌∷◌, ◌++◌, length, Ok, Err}
 use Rattle.std.proofs.Common.{arith, ap, ◌∙◌, length-append, ne_eqb}
 use Rattle.format.specs.Format.{got, Bytes, pick}
 use Rattle.format.specs.ReadWrite.{pair_write, each_write, spelt}
@@ -10,7 +10,7 @@ use Rattle.date.specs.Date.{date}
 use Rattle.kind.specs.declared.Product.{Product}
 use Rattle.kind.specs.declared.Role.TheVariants as Role
 use Rattle.kind.specs.declared.Kind.{Kind}
-use Rattle.kind.specs.declared.Row.{Row}
+use Rattle.kind.specs.Answers.{Row}
 use Rattle.kind.specs.Kinds.{row_in, kinds}
 use Rattle.element.specs.Data.{Data, one_zero, marker_data, simple_data, word_data, size_data, limit, date_data, data_of}
 use Rattle.element.specs.Element.{Element, element, identifier, data_by}
@@ -30,8 +30,8 @@ data_least (Kind.Size r) d = omega arith
 data_least (Kind.Dates r) d = omega arith
 
 by_least : (r : Row) (d : Data) → 4 ≤ length ((data_by r).write d)
-by_least (Row.Is k) d = data_least k d
-by_least (Row.No c q) d = data_least (Kind.Simple Role.Condition) d
+by_least (Ok k) d = data_least k d
+by_least (Err why) d = data_least (Kind.Simple Role.Condition) d
 
 element_least : (p : Product) (x : Element) → 8 ≤ length ((element p).write x)
 unfolding element identifier pair pair_write judged number

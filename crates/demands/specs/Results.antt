@@ -1,11 +1,11 @@
 -- Demand 2 of values in lent tables: a value that was put into a table, taken from it again, is written as the bytes that it was read from;
 -- and a table that says no value is refused as "a value that isn't of that identifier's kind".
-use Rattle.std.specs.Prelude.{ℕ, suc, ◌^◌, ◌≤◌, ◌<◌, ◌≡◌, refl, Bool, true, false, List, [], ◌∷◌, T, leb, length}
+use Rattle.format.specs.declared.Refusal.TheVariants.{Given}
+use Rattle.std.specs.Prelude.{ℕ, suc, ◌^◌, ◌≤◌, ◌<◌, ◌≡◌, refl, Bool, true, false, List, [], ◌∷◌, T, leb, length, Ok, Err, Some}
 use Rattle.std.proofs.Common.{arith, sym, ap, ◌∙◌, subst, le-leb, lt-ltb}
 use Rattle.std.specs.Float.{binary64}
 use Rattle.std.specs.Float.Ieee.Bits.{of_bits-to_bits, of_bits-fits}
 use Rattle.format.specs.declared.Fault.TheVariants as Fault
-use Rattle.format.specs.declared.Outcome.TheVariants as Outcome
 use Rattle.format.specs.Format.{pick, Bytes}
 use Rattle.format.specs.ReadWrite.{bit}
 use Rattle.format.specs.Laws.ReadWrite.{eqb_bit}
@@ -13,12 +13,9 @@ use Rattle.format.specs.Combinators.{pair, seq, via, number}
 use Rattle.format.specs.Laws.Combinators.{then_fit}
 use Rattle.buffer.specs.Laid.{put}
 use Rattle.kind.specs.declared.Product.{Product}
-use Rattle.kind.specs.declared.Edition.TheVariants as Edition
 use Rattle.kind.specs.declared.Kind.{Kind}
-use Rattle.kind.specs.declared.Row.TheVariants as Row
 use Rattle.kind.specs.Kinds.{edition_of, row_of}
 use Rattle.value.specs.declared.Value.{Value}
-use Rattle.value.specs.declared.Valued.TheVariants as Valued
 use Rattle.element.specs.Data.{Data, sizes_of, span_of, size_data, data_of}
 use Rattle.value.specs.Value.{value_in, value_case, value_answer, value_of}
 use Rattle.value.specs.Laws.Dates.{value_has, has_is}
@@ -64,7 +61,7 @@ handed_data id h (Kind.Size r) d f = let g = then_fit _ _ (sizes_of d) f.0 in (o
 handed_data id h (Kind.Dates r) d f = (is_true _ (of_bits-fits binary64 (span_of d).0.at), is_true _ (of_bits-fits binary64 (span_of d).1.at))
 
 -- "data turned into a value and back", through a table: the same bytes
-pub table_writes_back : (edition id : ℕ) (s : List ℕ) (v : Value) (t : List ℕ) (room : ℕ) → Bytes s → id < 2 ^ 32 → alone v ≡ true → value_of edition id s ≡ Valued.Is v → value_width ≤ length t → length s ≤ room
+pub table_writes_back : (edition id : ℕ) (s : List ℕ) (v : Value) (t : List ℕ) (room : ℕ) → Bytes s → id < 2 ^ 32 → alone v ≡ true → value_of edition id s ≡ Ok v → value_width ≤ length t → length s ≤ room
     → putting edition id (value_from (lent_leaves value_width t (value_answer edition id s))) room ≡ write s
 unfolding lent_leaves pick
 table_writes_back edition id s v t room b h a e l r =
@@ -74,10 +71,10 @@ table_writes_back edition id s v t room b h a e l r =
 
 -- ---- a table that says no value: 40 at 0, in that place of the order
 
-pub no_value_refused : (edition id room : ℕ) (p : Product) (k : Kind) → edition_of edition ≡ Edition.Of p → row_of p id ≡ Row.Is k → putting edition id no_value room ≡ deny (Outcome.Given Fault.Field 0)
+pub no_value_refused : (edition id room : ℕ) (p : Product) (k : Kind) → edition_of edition ≡ Some p → row_of p id ≡ Ok k → putting edition id no_value room ≡ deny (Err (Given Fault.Field 0))
 unfolding putting plan_kind pick
 no_value_refused edition id room p k e f = rw (e, f) (go (is_of k id no_value))
   where
-    go : (b : Bool) → plan_data (data_of k) room (pick b (lacks Fault.Field 0) (lacks Fault.Field 0)) ≡ deny (Outcome.Given Fault.Field 0)
+    go : (b : Bool) → plan_data (data_of k) room (pick b (lacks Fault.Field 0) (lacks Fault.Field 0)) ≡ deny (Err (Given Fault.Field 0))
     go true = refl
     go false = refl

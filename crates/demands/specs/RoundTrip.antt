@@ -1,26 +1,27 @@
 -- Data to a value and back, a value to data and back: document 01, "the other values go back alone, dates bit for bit".
-use Rattle.std.specs.Prelude.{ℕ, ◌≤◌, ◌<◌, ◌^◌, ◌≡◌, refl, Bool, true, false, ◌&&◌, List, [], T, leb, eqb, length, drop, Float}
+use Rattle.std.specs.Prelude.{ℕ, ◌≤◌, ◌<◌, ◌^◌, ◌≡◌, refl, Bool, true, false, ◌&&◌, List, [], T, leb, eqb, length, drop, Float, Ok, Err, Some, None}
 use Rattle.std.proofs.Common.{arith, sym, ap, ◌∙◌, subst, append-nil, le-leb, eq-eqb, eqb-true}
 use Rattle.std.proofs.Math.Seq.{drop-length}
 use Rattle.std.specs.Float.{binary64}
 use Rattle.std.specs.Float.Ieee.{to_bits, fits}
 use Rattle.std.specs.Float.Ieee.Bits.{of_bits-to_bits, to_bits-lt}
 use Rattle.format.specs.declared.Fault.{Fault}
-use Rattle.format.specs.declared.Outcome.{Outcome}
+use Rattle.kind.specs.Answers.{Edition, Row}
+use Rattle.format.specs.Answers.{Outcome}
+use Rattle.value.specs.Answers.{Valued}
+use Rattle.format.specs.declared.Refusal.{Refusal}
+use Rattle.format.specs.declared.Refusal.TheVariants.{At, Given}
 use Rattle.format.specs.Format.{Answer, got, refused, Bytes, pick, whole}
 use Rattle.format.specs.ReadWrite.{bit}
 use Rattle.format.specs.Combinators.{pair, seq, ◌then◌, judged, via, number, fixed, flag}
 use Rattle.format.specs.Laws.Combinators.{then_fit}
 use Rattle.date.specs.Double.{accepted}
 use Rattle.date.specs.Date.{date}
-use Rattle.kind.specs.declared.Edition.{Edition}
 use Rattle.kind.specs.declared.Kind.{Kind}
-use Rattle.kind.specs.declared.Row.{Row}
 use Rattle.kind.specs.Kinds.{edition_of, row_of}
 use Rattle.element.specs.Data.{Data, plain, sizes, span, words_of, sizes_of, span_of, one_zero, marker_data, simple_data, size_data, limit, date_data, data_of}
 use Rattle.value.specs.declared.Span.{Span}
 use Rattle.value.specs.declared.Value.{Value}
-use Rattle.value.specs.declared.Valued.{Valued}
 use Rattle.value.specs.Value.{floats, value_in, from_data, from_kind, from_row, from_edition, value_of}
 use Rattle.value.specs.Laws.Dates.{limit_back}
 use Rattle.put.specs.Plan.{after_of, before_of, Fitted, holds, lacks, from_span, from_value, shape, is_of, Putting, write, deny, if_room, plan_data, plan_kind, plan_row, plan_edition, putting, Puts}
@@ -37,11 +38,8 @@ put_value_one edition id v xs e f = (e.0 ∙ sym f.0, e.1 ∙ sym f.1)
 
 -- ---- cases that cannot be
 
-unlike : {B : Type 0} {x : Valued} {v : Value} {c : Fault} {p : ℕ} → x ≡ Valued.Given c p → x ≡ Valued.Is v → B
+unlike : {B : Type 0} {x : Valued} {v : Value} {why : Refusal} → x ≡ Err why → x ≡ Ok v → B
 unlike e f = absurd (let z : ◌≡◌ {A = ℕ} 0 1 = cc in omega arith)
-
-unlike_call : {B : Type 0} {x : Valued} {v : Value} {c : Fault} {p : ℕ} → x ≡ Valued.No c p → x ≡ Valued.Is v → B
-unlike_call e f = absurd (let z : ◌≡◌ {A = ℕ} 0 1 = cc in omega arith)
 
 unwritten : {B : Type 0} {x : Putting} {o : Outcome} {bs : List ℕ} → x ≡ deny o → x ≡ write bs → B
 unwritten e f = absurd (let z : ◌≡◌ {A = ℕ} 0 1 = cc in omega arith)
@@ -76,11 +74,11 @@ room_for_lem : (room : ℕ) (s : List ℕ) → length s ≤ room → if_room roo
 unfolding if_room pick
 room_for_lem room s h = rw (le-leb (length s) room h)
 
-kind_back : (k : Kind) (id : ℕ) (s : List ℕ) (v : Value) (room : ℕ) → Bytes s → alone v ≡ true → from_kind k id s ≡ Valued.Is v → length s ≤ room → plan_kind k id v room ≡ write s
+kind_back : (k : Kind) (id : ℕ) (s : List ℕ) (v : Value) (room : ℕ) → Bytes s → alone v ≡ true → from_kind k id s ≡ Ok v → length s ≤ room → plan_kind k id v room ≡ write s
 unfolding from_kind whole pick
 kind_back k id s v room bs a e h = go ((data_of k).read s) refl e
   where
-    ends : (d : Data) (n : ℕ) (t : Bool) → (data_of k).read s ≡ got d n → eqb n (length s) ≡ t → from_data k id (pick t (got d n) (refused Fault.Over n)) ≡ Valued.Is v → plan_kind k id v room ≡ write s
+    ends : (d : Data) (n : ℕ) (t : Bool) → (data_of k).read s ≡ got d n → eqb n (length s) ≡ t → from_data k id (pick t (got d n) (refused Fault.Over n)) ≡ Ok v → plan_kind k id v room ≡ write s
     ends d n true r t x =
         let f = (data_of k).forth s d n bs r in
         let y : v ≡ value_in k id d = cc in
@@ -89,22 +87,23 @@ kind_back k id s v room bs a e h = go ((data_of k).read s) refl e
         ap (λ (u : Value). plan_kind k id u room) y ∙ again k id d room f.fit (sym (ap alone y) ∙ a) ∙ ap (if_room room) w ∙ room_for_lem room s h
     ends d n false r t x = unlike refl x
 
-    go : (q : Answer Data) → (data_of k).read s ≡ q → from_data k id (whole (length s) q) ≡ Valued.Is v → plan_kind k id v room ≡ write s
+    go : (q : Answer Data) → (data_of k).read s ≡ q → from_data k id (whole (length s) q) ≡ Ok v → plan_kind k id v room ≡ write s
     go (got d n) r x = ends d n (eqb n (length s)) r refl x
     go (refused c p) r x = unlike refl x
 
 -- "data turned into a value and back": the same bytes
-pub value_writes_back : (edition id : ℕ) (s : List ℕ) (v : Value) (room : ℕ) → Bytes s → alone v ≡ true → value_of edition id s ≡ Valued.Is v → length s ≤ room → putting edition id v room ≡ write s
+pub value_writes_back : (edition id : ℕ) (s : List ℕ) (v : Value) (room : ℕ) → Bytes s → alone v ≡ true → value_of edition id s ≡ Ok v → length s ≤ room → putting edition id v room ≡ write s
 unfolding value_of putting
 value_writes_back edition id s v room bs a e h = by (edition_of edition) e
   where
-    of : (r : Row) → from_row r id s ≡ Valued.Is v → plan_row r id v room ≡ write s
-    of (Row.Is k) x = kind_back k id s v room bs a x h
-    of (Row.No c p) x = unlike refl x
+    of : (r : Row) → from_row r id s ≡ Ok v → plan_row r id v room ≡ write s
+    of (Ok k) x = kind_back k id s v room bs a x h
+    of (Err (At c p)) x = unlike refl x
+    of (Err (Given c p)) x = unlike refl x
 
-    by : (d : Edition) → from_edition d id s ≡ Valued.Is v → plan_edition d id v room ≡ write s
-    by (Edition.Of p) x = of (row_of p id) x
-    by Edition.Unknown x = unlike_call refl x
+    by : (d : Edition) → from_edition d id s ≡ Ok v → plan_edition d id v room ≡ write s
+    by (Some p) x = of (row_of p id) x
+    by None x = unlike refl x
 
 -- ---- a value to data and back
 
@@ -188,43 +187,47 @@ value_of_data k id (Value.Dates v) d h i e =
     rw ((dated_is v d e).is, of_bits-to_bits binary64 v.after (subst T (sym h.0) tt), of_bits-to_bits binary64 v.before (subst T (sym h.1) tt))
 value_of_data k id (Value.Words n) d h i e = not_lacks refl e
 
+abbrev is_value : Value → Valued
+is_value v = Ok v
+
 -- what fits is read whole
-whole_back : (k : Kind) (id : ℕ) (d : Data) → (data_of k).Fit d → from_kind k id ((data_of k).write d) ≡ Valued.Is (value_in k id d)
+whole_back : (k : Kind) (id : ℕ) (d : Data) → (data_of k).Fit d → from_kind k id ((data_of k).write d) ≡ Ok (value_in k id d)
 unfolding from_kind whole pick
 whole_back k id d f =
     let b : (data_of k).read ((data_of k).write d) ≡ got d (length ((data_of k).write d)) = rw append-nil at ((data_of k).back d [] f) in
     rw (b, eq-eqb (length ((data_of k).write d)) (length ((data_of k).write d)) refl)
 
-kind_forth : (k : Kind) (id : ℕ) (v : Value) (room : ℕ) (bs : List ℕ) → HandedValue v → plan_kind k id v room ≡ write bs → from_kind k id bs ≡ Valued.Is v
+kind_forth : (k : Kind) (id : ℕ) (v : Value) (room : ℕ) (bs : List ℕ) → HandedValue v → plan_kind k id v room ≡ write bs → from_kind k id bs ≡ Ok v
 unfolding plan_kind if_room pick
 kind_forth k id v room bs h e = is (is_of k id v) refl e
   where
-    fit : (d : Data) (t : Bool) → is_of k id v ≡ true → from_value v ≡ holds d → pick t (write ((data_of k).write d)) (deny (Outcome.No Fault.Room 0)) ≡ write bs → from_kind k id bs ≡ Valued.Is v
+    fit : (d : Data) (t : Bool) → is_of k id v ≡ true → from_value v ≡ holds d → pick t (write ((data_of k).write d)) (deny (Err (At Fault.Room 0))) ≡ write bs → from_kind k id bs ≡ Ok v
     fit d true i f x =
         let s = of_shape k id v i in
         let w : bs ≡ (data_of k).write d = cc in
         let z : data_of k ≡ format_by (shape_of v) = shaped k ∙ ap format_by s in
         let g : (data_of k).Fit d = rw z (fit_of v d h f) in
-        ap (from_kind k id) w ∙ whole_back k id d g ∙ ap Valued.Is (valued k id d ∙ ap (λ (n : ℕ). value_by n id d) s ∙ value_of_data k id v d h i f)
+        ap (from_kind k id) w ∙ whole_back k id d g ∙ ap (λ (u : Value). is_value u) (valued k id d ∙ ap (λ (n : ℕ). value_by n id d) s ∙ value_of_data k id v d h i f)
     fit d false i f x = unwritten refl x
 
-    has : (q : Fitted) → is_of k id v ≡ true → from_value v ≡ q → plan_data (data_of k) room q ≡ write bs → from_kind k id bs ≡ Valued.Is v
+    has : (q : Fitted) → is_of k id v ≡ true → from_value v ≡ q → plan_data (data_of k) room q ≡ write bs → from_kind k id bs ≡ Ok v
     has (holds d) i f x = fit d (leb (length ((data_of k).write d)) room) i f x
     has (lacks c p) i f x = unwritten refl x
 
-    is : (t : Bool) → is_of k id v ≡ t → plan_data (data_of k) room (pick t (from_value v) (lacks Fault.Field 0)) ≡ write bs → from_kind k id bs ≡ Valued.Is v
+    is : (t : Bool) → is_of k id v ≡ t → plan_data (data_of k) room (pick t (from_value v) (lacks Fault.Field 0)) ≡ write bs → from_kind k id bs ≡ Ok v
     is true i x = has (from_value v) i refl x
     is false i x = unwritten refl x
 
 -- "a value turned into data" and read: the same value
-pub data_reads_back : (edition id : ℕ) (v : Value) (room : ℕ) (bs : List ℕ) → HandedValue v → putting edition id v room ≡ write bs → value_of edition id bs ≡ Valued.Is v
+pub data_reads_back : (edition id : ℕ) (v : Value) (room : ℕ) (bs : List ℕ) → HandedValue v → putting edition id v room ≡ write bs → value_of edition id bs ≡ Ok v
 unfolding value_of putting
 data_reads_back edition id v room bs h e = by (edition_of edition) e
   where
-    of : (r : Row) → plan_row r id v room ≡ write bs → from_row r id bs ≡ Valued.Is v
-    of (Row.Is k) x = kind_forth k id v room bs h x
-    of (Row.No c p) x = unwritten refl x
+    of : (r : Row) → plan_row r id v room ≡ write bs → from_row r id bs ≡ Ok v
+    of (Ok k) x = kind_forth k id v room bs h x
+    of (Err (At c p)) x = unwritten refl x
+    of (Err (Given c p)) x = unwritten refl x
 
-    by : (d : Edition) → plan_edition d id v room ≡ write bs → from_edition d id bs ≡ Valued.Is v
-    by (Edition.Of p) x = of (row_of p id) x
-    by Edition.Unknown x = unwritten refl x
+    by : (d : Edition) → plan_edition d id v room ≡ write bs → from_edition d id bs ≡ Ok v
+    by (Some p) x = of (row_of p id) x
+    by None x = unwritten refl x

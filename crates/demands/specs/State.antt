@@ -1,15 +1,13 @@
 -- Document 02, W8: the place of a rule's state, as its row has it, is where the state stands, and all that a switch changes; and the lister's
 -- lines, which go by the rows, are of the list of rules that was read.
-use Rattle.std.specs.Prelude.{ℕ, ◌+◌, ◌-◌, ◌*◌, ◌≤◌, ◌<◌, ◌≡◌, refl, Bool, List, ◌∷◌, ◌++◌, length, take, drop}
+use Rattle.std.specs.Prelude.{ℕ, ◌+◌, ◌-◌, ◌*◌, ◌≤◌, ◌<◌, ◌≡◌, refl, Bool, List, ◌∷◌, ◌++◌, length, take, drop, Ok, Some}
 use Rattle.std.proofs.Common.{arith, sym, ap, ◌∙◌, append_assoc, length-drop, take-append-drop, drop_at, le-leb}
-use Rattle.format.specs.declared.Outcome.TheVariants.{Done}
 use Rattle.format.specs.Format.{Bytes, got, pick}
 use Rattle.format.specs.ReadWrite.{spelt, value, bit}
 use Rattle.format.specs.Laws.ReadWrite.{length_spelt}
 use Rattle.format.specs.Combinators.{pair, seq, ◌then◌, judged, via, number}
 use Rattle.format.specs.Row.{total}
 use Rattle.kind.specs.declared.Product.{Product}
-use Rattle.kind.specs.declared.Edition.TheVariants as Edition
 use Rattle.kind.specs.Kinds.{kinds, row_in, edition_of}
 use Rattle.element.specs.Element.{Element, data_by}
 use Rattle.rule.specs.Rule.{Rule, elements_in}
@@ -28,7 +26,6 @@ use Rattle.plan.specs.Laws.Found.{Makes}
 use Rattle.plan.specs.Laws.Makes.{name_ends}
 use Rattle.switch.specs.Laws.Switch.{switch_done}
 use Rattle.asked.specs.Asked.{asked}
-use Rattle.fixed.specs.declared.Fielded.TheVariants.{Is}
 use Rattle.fixed.specs.Fixed.{fixed_of, fixed_fields}
 use Rattle.line.specs.Line.{deck_line, rule_line, element_line}
 use Rattle.listed.specs.Listed.{deck_listed, rule_listed, element_listed}
@@ -48,14 +45,14 @@ deck_is_listed p v s rs n bs e =
     deck_listed_as s v (ap (number 2).read behind ∙ (number 2).back v t o.fit.0.0.0.1.0)
 
 -- ---- the deck s was read as the rules rs in version v, and r is rule k of them
-module _ (edition : ℕ) (p : Product) (ed : edition_of edition ≡ Edition.Of p) (v : ℕ) (s : List ℕ) (rs : List Rule) (n : ℕ) (bs : Bytes s) (e : read_as p s ≡ got (deck_of v rs) n) (k : ℕ) {r : Rule} {later : List Rule} (is-r : drop k rs ≡ r ∷ later) where
+module _ (edition : ℕ) (p : Product) (ed : edition_of edition ≡ Some p) (v : ℕ) (s : List ℕ) (rs : List Rule) (n : ℕ) (bs : Bytes s) (e : read_as p s ≡ got (deck_of v rs) n) (k : ℕ) {r : Rule} {later : List Rule} (is-r : drop k rs ≡ r ∷ later) where
   -- the fixed fields are that rule's, so the four bytes that `RuleRow` has for its state are the state that they give
-  pub fixed_are : fixed_fields edition k s ≡ Is (fixed_of r)
+  pub fixed_are : fixed_fields edition k s ≡ Ok (fixed_of r)
   unfolding fixed_fields asked
   fixed_are = rw (ed, e, is-r)
 
   -- the tables that were lent are rules and elements, and the read was done
-  module _ (rules elements : List ℕ) (m : ℕ) (done : read_says (edition_of edition) (length rules) (length elements) s ≡ Done m) where
+  module _ (rules elements : List ℕ) (m : ℕ) (done : read_says (edition_of edition) (length rules) (length elements) s ≡ Ok m) where
     -- "state ON or OFF, name units, elements"
     pub rule_is_listed : rule_listed s k (drop (rule_width * k) (rules_after (edition_of edition) s rules elements)) ≡ rule_line k r.on (length r.name.units) (length r.elements)
     rule_is_listed =
@@ -79,7 +76,7 @@ module _ (edition : ℕ) (p : Product) (ed : edition_of edition ≡ Edition.Of p
         ap (element_listed i) whole ∙ element_listed_as i x.0 k row.start row.end (drop element_width tail) ∙ ap (element_line i x.0) bytes
 
 -- ---- the deck in the first n bytes of the buffer d was read as the rules rs in version v, and r is rule k of them: a switch puts the state into its four bytes, and no other byte changes
-pub switch_changes : (edition : ℕ) (p : Product) → edition_of edition ≡ Edition.Of p → (d : List ℕ) (n : ℕ) → n ≤ length d → Bytes (take n d) → (v : ℕ) (rs : List Rule) (m : ℕ) → read_as p (take n d) ≡ got (deck_of v rs) m → (k : ℕ) {r : Rule} {later : List Rule} → drop k rs ≡ r ∷ later → (on : Bool)
+pub switch_changes : (edition : ℕ) (p : Product) → edition_of edition ≡ Some p → (d : List ℕ) (n : ℕ) → n ≤ length d → Bytes (take n d) → (v : ℕ) (rs : List Rule) (m : ℕ) → read_as p (take n d) ≡ got (deck_of v rs) m → (k : ℕ) {r : Rule} {later : List Rule} → drop k rs ≡ r ∷ later → (on : Bool)
     → leaves n d (planned edition n d (switch k on)) ≡ put_in d (enabled_at (start_of v rs k) r) (spelt 4 (bit on))
 unfolding planned Makes pick
 switch_changes edition p ed d n l bs v rs m e k {r} is-r on =

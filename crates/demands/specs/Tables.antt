@@ -2,7 +2,7 @@
 -- that rule, or those data, as written.
 use Prim.Native.Nat.{ℕ, zero, suc, ◌+◌, ◌*◌, ◌≤◌}
 use Rattle.std.proofs.Math.Nat.{add-zero, zero-add}
-use Rattle.std.proofs.Common.{add_assoc, ap, ◌∙◌, length-drop, length-take-le}
+use Rattle.std.proofs.Common.{add_assoc, ap, ◌∙◌, length-drop, length-take-le, Ok, Err, Some, None}
 use native.Mathlib.Omega.{arith}
 use Rattle.std.proofs.Math.Path.{◌≡◌}
 use Rattle.std.specs.Prelude.{refl, Bool, true, false, leb, eqb, take, drop}
@@ -11,7 +11,8 @@ use Rattle.std.proofs.Math.ListN.{length, length-append}
 use Rattle.std.proofs.Math.Seq.{drop-append_seam, drop-drop}
 use borrow.Author.Tests.{le-leb}
 use Rattle.format.specs.declared.Fault.TheVariants as Fault
-use Rattle.format.specs.declared.Outcome.TheVariants.{Done, No}
+use Rattle.kind.specs.Answers.{Edition}
+use Rattle.format.specs.declared.Refusal.TheVariants.{At}
 use Rattle.format.specs.Format.{Format, Answer, got, refused, Bytes, pick}
 use Rattle.format.specs.ReadWrite.{pair_write, spelt, bit, each_write}
 use Rattle.format.specs.Laws.ReadWrite.{length_spelt}
@@ -19,7 +20,6 @@ use Rattle.format.specs.Combinators.{pair, via, judged, seq, ◌then◌, number,
 use Rattle.format.specs.Row.{total, start_in}
 use Rattle.text.specs.Laws.Written.{string_long}
 use Rattle.kind.specs.declared.Product.{Product}
-use Rattle.kind.specs.declared.Edition.{Edition}
 use Rattle.kind.specs.Kinds.{kinds, row_in, edition_of}
 use Rattle.element.specs.Element.{Element, data_by, element, identifier}
 use Rattle.rule.specs.Rule.{Rule, rule, placed, separator, elements_in}
@@ -102,44 +102,44 @@ placed_long p i x = go (eqb i 0)
 -- ---- a read that is done has read a list of rules in a version, and answers their number
 pub record Accepted (edition : ℕ) (s : List ℕ) (m : ℕ) : Type 0 where
   pub product : Product
-  pub names : edition_of edition ≡ Edition.Of product
+  pub names : edition_of edition ≡ Some product
   pub version : ℕ
   pub rules : List Rule
   pub ends : ℕ
   pub is : read_as product s ≡ got (deck_of version rules) ends
   pub many : m ≡ length rules
 
-pub done_has_read : (edition : ℕ) (s : List ℕ) (rules elements m : ℕ) → read_says (edition_of edition) rules elements s ≡ Done m → Accepted edition s m
+pub done_has_read : (edition : ℕ) (s : List ℕ) (rules elements m : ℕ) → read_says (edition_of edition) rules elements s ≡ Ok m → Accepted edition s m
 unfolding in_tables pick
 done_has_read edition s rules elements m = by (edition_of edition) refl
   where
-    room : (x y : Bool) {c : ℕ} → pick x (pick y (Done c) (No Fault.Table 1)) (No Fault.Table 0) ≡ Done m → m ≡ c
+    room : (x y : Bool) {c : ℕ} → pick x (pick y (Ok c) (Err (At Fault.Table 1))) (Err (At Fault.Table 0)) ≡ Ok m → m ≡ c
     room true true d = cc
     room true false d = absurd (let z : ◌≡◌ {A = ℕ} 0 1 = cc in omega arith)
     room false y d = absurd (let z : ◌≡◌ {A = ℕ} 0 1 = cc in omega arith)
 
-    of : (p : Product) → edition_of edition ≡ Edition.Of p → (a : Answer Deck) → read_as p s ≡ a → tabled rules elements a ≡ Done m → Accepted edition s m
+    of : (p : Product) → edition_of edition ≡ Some p → (a : Answer Deck) → read_as p s ≡ a → tabled rules elements a ≡ Ok m → Accepted edition s m
     of p ed (got k n) e d =
         record { product = p; names = ed; version = k.version; rules = k.rules; ends = n; is = e; many = room (leb (rule_width * length k.rules) rules) (leb (element_width * total elements_in k.rules) elements) d }
     of p ed (refused c q) e d = absurd (let z : ◌≡◌ {A = ℕ} 0 1 = cc in omega arith)
 
-    by : (o : Edition) → edition_of edition ≡ o → read_says o rules elements s ≡ Done m → Accepted edition s m
-    by (Edition.Of p) ed d = of p ed (read_as p s) refl d
-    by Edition.Unknown ed d = absurd (let z : ◌≡◌ {A = ℕ} 0 1 = cc in omega arith)
+    by : (o : Edition) → edition_of edition ≡ o → read_says o rules elements s ≡ Ok m → Accepted edition s m
+    by (Some p) ed d = of p ed (read_as p s) refl d
+    by None ed d = absurd (let z : ◌≡◌ {A = ℕ} 0 1 = cc in omega arith)
 
 -- ---- the deck s was read as the rules rs in version v, and the tables that were lent are rules and elements
-module _ (edition : ℕ) (p : Product) (ed : edition_of edition ≡ Edition.Of p) (v : ℕ) (s : List ℕ) (rs : List Rule) (n : ℕ) (bs : Bytes s) (e : read_as p s ≡ got (deck_of v rs) n) (rules elements : List ℕ) where
+module _ (edition : ℕ) (p : Product) (ed : edition_of edition ≡ Some p) (v : ℕ) (s : List ℕ) (rs : List Rule) (n : ℕ) (bs : Bytes s) (e : read_as p s ≡ got (deck_of v rs) n) (rules elements : List ℕ) where
   -- where the rules start
   abbrev base : ℕ
   base = base_of v (length rs)
 
   -- with room in both the read is done, and answers the number of rules
-  pub read_is_done : rule_width * length rs ≤ length rules → element_width * total elements_in rs ≤ length elements → read_says (edition_of edition) (length rules) (length elements) s ≡ Done (length rs)
+  pub read_is_done : rule_width * length rs ≤ length rules → element_width * total elements_in rs ≤ length elements → read_says (edition_of edition) (length rules) (length elements) s ≡ Ok (length rs)
   unfolding in_tables pick
   read_is_done h g = rw (ed, e, le-leb _ _ h, le-leb _ _ g)
 
   -- it is done
-  module _ (m : ℕ) (done : read_says (edition_of edition) (length rules) (length elements) s ≡ Done m) where
+  module _ (m : ℕ) (done : read_says (edition_of edition) (length rules) (length elements) s ≡ Ok m) where
     now : (rules_after (edition_of edition) s rules elements ≡ rule_rows p 0 base rs ++ drop (length (rule_rows p 0 base rs)) rules) × (elements_after (edition_of edition) s rules elements ≡ all_element_rows p 0 base rs ++ drop (length (all_element_rows p 0 base rs)) elements)
     now = let d = rw (ed, e) at done in rw (ed, e, d) (put_front rules (rule_rows p 0 base rs), put_front elements (all_element_rows p 0 base rs))
 

@@ -9,13 +9,13 @@ pub fn spell(s: &mut [u8; 20], n: u64) -> usize
     ensures { (result ≡ 20 - length (decimal n)) × (s.new ≡ take result s.old ++ decimal n) }
 {
     let s: &mut [u8] = s; // of a slice a proof has the length
-    s[19] = (48 + n % 10) as u8;
+    s[19] = b'0' + (n % 10) as u8;
     let mut i = 19;
     let mut rest = n / 10;
     while 0 < rest {
         i -= 1;
-        s[i] = (48 + rest % 10) as u8;
-        rest = rest / 10;
+        s[i] = b'0' + (rest % 10) as u8;
+        rest /= 10;
     }
     i
 }
@@ -25,10 +25,7 @@ fn digit(n: u32) -> u8
     ensures { result ≡ hex_digit n }
 {
     let d = (n % 16) as u8;
-    if d < 10 {
-        return 48 + d;
-    }
-    55 + d
+    if d < 10 { b'0' + d } else { b'A' + (d - 10) }
 }
 
 // The eight hexadecimal digits of an identifier.

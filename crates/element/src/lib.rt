@@ -15,7 +15,7 @@ fn one_then_zero_at(s: &[u8], at: usize) -> Read
     ensures { result ≡ seen none one_zero s.now at }
 {
     let a = field::fixed32_at(s, at, 1);
-    let Read::Got(p, _) = a else {
+    let Ok((p, _)) = a else {
         return a;
     };
     field::fixed32_at(s, p, 0)
@@ -26,20 +26,20 @@ fn one_zero_at(s: &[u8], at: usize) -> Read
     ensures { result ≡ seen none one_zero s.now at }
 {
     let w = wire::u64_at(s, at);
-    let Read::Got(p, x) = w else {
+    let Ok((p, x)) = w else {
         return one_then_zero_at(s, at);
     };
     if x != 1 {
         return one_then_zero_at(s, at);
     }
-    Read::Got(p, 0)
+    Ok((p, 0))
 }
 
 fn marker_at(s: &[u8], at: usize) -> Read
     ensures { result ≡ seen none marker_data s.now at }
 {
     let a = one_zero_at(s, at);
-    let Read::Got(p, _) = a else {
+    let Ok((p, _)) = a else {
         return a;
     };
     field::fixed32_at(s, p, 1)
@@ -49,24 +49,14 @@ fn marker_at(s: &[u8], at: usize) -> Read
 pub fn words_at(s: &[u8], at: usize, n: u64) -> Read
     ensures { result ≡ seen none (each (λ i. word) 0 n) s.now at }
 {
-    let mut i = 0;
-    let mut p = at;
-    while i < n {
-        let r = text::word_end(s, p);
-        let Read::Got(q, _) = r else {
-            return r;
-        };
-        p = q;
-        i += 1;
-    }
-    Read::Got(p, 0)
+    each::each_at(|p, _| text::word_end(s, p), at, n)
 }
 
 fn word_list_at(s: &[u8], at: usize) -> Read
     ensures { result ≡ seen none word_data s.now at }
 {
     let c = field::count32_at(s, at, 0, 64);
-    let Read::Got(p, n) = c else {
+    let Ok((p, n)) = c else {
         return c;
     };
     words_at(s, p, n)
@@ -76,11 +66,11 @@ fn size_at(s: &[u8], at: usize) -> Read
     ensures { result ≡ seen none size_data s.now at }
 {
     let a = one_zero_at(s, at);
-    let Read::Got(p, _) = a else {
+    let Ok((p, _)) = a else {
         return a;
     };
     let min = wire::u32_at(s, p);
-    let Read::Got(q, _) = min else {
+    let Ok((q, _)) = min else {
         return min;
     };
     format::untold(wire::u32_at(s, q))
@@ -91,11 +81,11 @@ fn limit_at(s: &[u8], at: usize) -> Read
     ensures { result ≡ seen none limit s.now at }
 {
     let f = field::flag_at(s, at);
-    let Read::Got(p, _) = f else {
+    let Ok((p, _)) = f else {
         return f;
     };
     let z = field::fixed32_at(s, p, 0);
-    let Read::Got(q, _) = z else {
+    let Ok((q, _)) = z else {
         return z;
     };
     format::untold(date::date_at(s, q))
@@ -105,11 +95,11 @@ fn dates_at(s: &[u8], at: usize) -> Read
     ensures { result ≡ seen none date_data s.now at }
 {
     let a = one_zero_at(s, at);
-    let Read::Got(p, _) = a else {
+    let Ok((p, _)) = a else {
         return a;
     };
     let after = limit_at(s, p);
-    let Read::Got(q, _) = after else {
+    let Ok((q, _)) = after else {
         return after;
     };
     limit_at(s, q)

@@ -6,20 +6,20 @@ ghost use Rattle.format.specs.ReadWrite.{bit};
 ghost use Rattle.format.specs.Combinators.{count, fixed, flag};
 ghost use Rattle.format.specs.Laws.Seen.{seen, itself, none, judged_count, judged_fixed};
 
-use format::{Fault, Read};
+use format::{Fault, Read, Refusal};
 
 // A number that was read, as a count: it must be from low to high.
 fn judged_count(r: Read, at: usize, low: u64, high: u64) -> Read
     ensures { result ≡ judged_count at low high r }
 {
-    let Read::Got(_, n) = r else {
+    let Ok((_, n)) = r else {
         return r;
     };
     if n < low {
-        return Read::No(at, Fault::Count);
+        return Err(Refusal::At(Fault::Count, at));
     }
     if high < n {
-        return Read::No(at, Fault::Count);
+        return Err(Refusal::At(Fault::Count, at));
     }
     r
 }
@@ -41,13 +41,13 @@ pub fn count32_at(s: &[u8], at: usize, low: u64, high: u64) -> Read
 fn judged_fixed(r: Read, at: usize, v: u64, fault: Fault) -> Read
     ensures { result ≡ judged_fixed at v fault r }
 {
-    let Read::Got(p, n) = r else {
+    let Ok((p, n)) = r else {
         return r;
     };
     if n != v {
-        return Read::No(at, fault);
+        return Err(Refusal::At(fault, at));
     }
-    Read::Got(p, 0)
+    Ok((p, 0))
 }
 
 // A constant of 2, 3 or 4 bytes.
@@ -74,11 +74,11 @@ pub fn flag_at(s: &[u8], at: usize) -> Read
     ensures { result ≡ seen bit flag s.now at }
 {
     let r = wire::u32_at(s, at);
-    let Read::Got(_, x) = r else {
+    let Ok((_, x)) = r else {
         return r;
     };
     if 1 < x {
-        return Read::No(at, Fault::Field);
+        return Err(Refusal::At(Fault::Field, at));
     }
     r
 }

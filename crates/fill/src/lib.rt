@@ -4,12 +4,11 @@
 ghost use Rattle.std.specs.Prelude.{◌≡◌, ◌≤◌, ◌<◌, ◌+◌, ◌^◌, length};
 ghost use Rattle.rule.specs.Places.{data_at};
 ghost use Rattle.buffer.specs.Laid.{put};
-ghost use Rattle.fill.specs.Laws.Fill.{Small, Under, ElementsFill};
+ghost use Rattle.fill.specs.Laws.Fill.{Under, ElementsFill};
 ghost use Rattle.fill.specs.Laws.Parts.{BodyFill, PartFill, RuleFill, RulesFill};
 
-use format::{Fault, Read};
+use format::{Fault, Read, Refusal};
 use kind::Product;
-use text::StringRead;
 
 // The numbers of a row.
 pub const RULE_WIDTH: usize = 5;
@@ -23,7 +22,7 @@ fn put_row(t: &mut [u32], at: usize, row: &[u32])
     if t.len() < at {
         return;
     }
-    lent::put_row(&mut t[at..], row);
+    let _ = lent::put_row(&mut t[at..], row);
 }
 
 // What follows goes over a deck that was accepted; its bounds only keep sums from wrapping.
@@ -34,9 +33,13 @@ struct Entry {
     start: usize,
     i: u64,
     k: usize,
+    ghost start_bound: { start < 2 ^ 28 },
+    ghost i_bound: { i ≤ 256 },
+    ghost k_bound: { k < 2 ^ 30 },
 }
 
 // Where the data of an element start that stands at place j of its rule.
+#[tactic(auto, unfolding(format::specs::Format::pick))]
 fn data_start(j: u64, at: usize) -> usize
     requires { at < 2 ^ 31 }
     ensures { (result ≡ data_at j at) × (result ≤ at + 6) }
@@ -59,44 +62,41 @@ fn fill_elements(
     requires rest_len_bound { length rest.now ≤ 60000 }
     requires at_bound { at < 2 ^ 30 }
     requires n_bound { n < 2 ^ 16 }
-    requires small { Small rule }
     ensures { ElementsFill product rest.now at rule.start rule.i n rule.k t.old t.new result × Under (at + 60000) result }
 {
-    let mut j = 0;
     let mut p = at;
-    while j < n {
+    for j in 0..n {
         let r = rule::placed_at(rest, p, product, j);
-        let Read::Got(q, id) = r else {
+        let Ok((q, id)) = r else {
             return r;
         };
         let d = data_start(j, rule.start + p);
         let row = [id as u32, rule.i as u32, d as u32, (rule.start + q) as u32];
         put_row(t, rule.k + ELEMENT_WIDTH * (j as usize), &row);
         p = q;
-        j += 1;
     }
-    Read::Got(p, n)
+    Ok((p, n))
 }
 
 // The number of a rule's elements, its head and its elements, in its part, and their rows; the value is their number.
 fn fill_body(rest: &[u8], at: usize, product: Product, t: &mut [u32], rule: Entry) -> Read
     requires rest_len_bound { length rest.now ≤ 60000 }
     requires at_bound { at < 2 ^ 29 }
-    requires small { Small rule }
     ensures { BodyFill product rest.now at rule.start rule.i rule.k t.old t.new result × Under (at + 120000) result }
 {
     let c = wire::u16_at(rest, at);
-    let Read::Got(p, n) = c else {
+    let Ok((p, n)) = c else {
         return c;
     };
     let h = rule::head_at(rest, p, rule.i);
-    let Read::Got(q, _) = h else {
+    let Ok((q, _)) = h else {
         return h;
     };
     fill_elements(rest, q, product, n, t, rule)
 }
 
 // A rule at the start of its part: its row, and the rows of its elements; the value is their number.
+#[tactic(auto, using(text::specs::Laws::Written::length_three, crate::specs::Laws::Fill::under_got))]
 fn fill_part(
     rest: &[u8],
     product: Product,
@@ -105,16 +105,12 @@ fn fill_part(
     rule: Entry,
 ) -> Read
     requires rest_len_bound { length rest.now ≤ 60000 }
-    requires small { Small rule }
     ensures { PartFill product rest.now rule.start rule.i rule.k rules.old rules.new elements.old elements.new result × Under 200000 result }
 {
-    let name = text::string_at(rest, 4);
-    let StringRead::Got(enabled, form, _) = name else {
-        return text::end_of(name);
-    };
+    let (enabled, form, _) = text::string_at(rest, 4)?;
     let units = 4 + text::length_size(form);
     let r = fill_body(rest, enabled + 24, product, elements, rule);
-    let Read::Got(end, n) = r else {
+    let Ok((end, n)) = r else {
         return r;
     };
     let row = [
@@ -128,35 +124,32 @@ fn fill_part(
     r
 }
 
-// Rule i at a place, from the part of the deck that starts there, with the rows of its elements from k on.
+// A rule, from the part of the deck that starts at it, with the rows of its elements.
+#[tactic(auto, using(crate::specs::Laws::Fill::under_got))]
 fn fill_rule(
     s: &[u8],
-    at: usize,
     product: Product,
-    i: u64,
     rules: &mut [u32],
     elements: &mut [u32],
-    k: usize,
+    rule: Entry,
 ) -> Read
     requires s_len_bound { length s.now ≤ 60000 }
-    requires at_bound { at < 2 ^ 28 }
-    requires i_bound { i ≤ 256 }
-    requires k_bound { k < 2 ^ 30 }
-    ensures { RuleFill product s.now at i k rules.old rules.new elements.old elements.new result × Under (at + 200000) result }
+    ensures { RuleFill product s.now rule.start rule.i rule.k rules.old rules.new elements.old elements.new result × Under (rule.start + 200000) result }
 {
+    let at = rule.start;
     if s.len() < at {
-        return Read::No(at, Fault::Cut);
+        return Err(Refusal::At(Fault::Cut, at));
     }
     let rest = &s[at..];
-    let rule = Entry { start: at, i, k };
     let r = fill_part(rest, product, rules, elements, rule);
     match r {
-        Read::Got(p, n) => Read::Got(at + p, n),
-        Read::No(p, c) => Read::No(at + p, c),
+        Ok((p, n)) => Ok((at + p, n)),
+        Err(why) => Err(format::further(why, at)),
     }
 }
 
 // The n rules of a deck that was accepted, which start at base; the value is n.
+#[tactic(auto, using(crate::specs::Laws::Fill::under_got, crate::specs::Laws::Parts::rules_start))]
 pub fn fill_rules(
     s: &[u8],
     product: Product,
@@ -168,25 +161,24 @@ pub fn fill_rules(
     ensures { RulesFill product s.now base n rules.old rules.new elements.old elements.new result }
 {
     if 60000 < s.len() {
-        return Read::No(60000, Fault::Long);
+        return Err(Refusal::At(Fault::Long, 60000));
     }
     if s.len() < base {
-        return Read::No(base, Fault::Cut);
+        return Err(Refusal::At(Fault::Cut, base));
     }
     if 256 < n {
-        return Read::No(5, Fault::Count);
+        return Err(Refusal::At(Fault::Count, 5));
     }
-    let mut i = 0;
     let mut p = base;
     let mut k: usize = 0;
-    while i < n {
-        let r = fill_rule(s, p, product, i, rules, elements, k);
-        let Read::Got(q, m) = r else {
+    for i in 0..n {
+        let rule = Entry { start: p, i, k };
+        let r = fill_rule(s, product, rules, elements, rule);
+        let Ok((q, m)) = r else {
             return r;
         };
         k += ELEMENT_WIDTH * (m as usize);
         p = q;
-        i += 1;
     }
-    Read::Got(p, n)
+    Ok((p, n))
 }

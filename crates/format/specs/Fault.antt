@@ -1,9 +1,10 @@
 -- The numbers of the refusals: document 01, "Numbers a refusal gives".
-use Rattle.std.specs.Prelude.{ℕ, ◌+◌, ◌*◌, List}
+use Rattle.std.specs.Prelude.{ℕ, ◌+◌, ◌*◌, List, Result, Ok, Err}
 use Rattle.format.specs.declared.Fault.{Fault}
 use Rattle.format.specs.declared.Fault.TheVariants.{Edition, Long, Cut, Mark, Version, Count, Form, Field, Unknown, Foreign, Date, Size, Over, Table, Stated, Absent, Text, Rules, Large, Room, Full, Last, Offset}
-use Rattle.format.specs.declared.Outcome.{Outcome}
-use Rattle.format.specs.declared.Outcome.TheVariants.{Done, No, Given}
+use Rattle.format.specs.Answers.{Outcome}
+use Rattle.format.specs.declared.Refusal.{Refusal}
+use Rattle.format.specs.declared.Refusal.TheVariants.{At, Given}
 
 abbrev pub number_of : Fault → ℕ
 -- edition not 1 or 2
@@ -53,16 +54,22 @@ number_of Last = 22
 -- an offset that is not its rule's start: document 02, W10
 number_of Offset = 29
 
+-- "the same fault in the second deck or in given element data"
+abbrev pub in_given : {A : Type 0} → Result A Refusal → Result A Refusal
+in_given (Ok x) = Ok x
+in_given (Err (At c p)) = Err (Given c p)
+in_given (Err (Given c p)) = Err (Given c p)
+
 -- the number and the place that an outcome gives: "0 accepted", and "34 to 45: 2 to 13 plus 32"
 abbrev pub code_of : Outcome → ℕ
-code_of (Done n) = 0
-code_of (No c p) = number_of c
-code_of (Given c p) = number_of c + 32
+code_of (Ok n) = 0
+code_of (Err (At c p)) = number_of c
+code_of (Err (Given c p)) = number_of c + 32
 
 abbrev pub place_of : Outcome → ℕ
-place_of (Done n) = n
-place_of (No c p) = p
-place_of (Given c p) = p
+place_of (Ok n) = n
+place_of (Err (At c p)) = p
+place_of (Err (Given c p)) = p
 
 -- "one 64-bit number, code plus 256 times place"
 abbrev pub packed : Outcome → ℕ

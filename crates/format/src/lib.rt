@@ -2,134 +2,82 @@
 #![tactic(auto)]
 
 ghost use Rattle.std.specs.Prelude.{◌≡◌};
-ghost use Rattle.format.specs.Fault.{number_of};
-ghost use Rattle.format.specs.Laws.Fault.{row_number, end_says, no_read, in_given};
+ghost use Rattle.format.specs.Fault.{number_of, in_given};
+ghost use Rattle.format.specs.Laws.Fault.{further};
 ghost use Rattle.format.specs.Laws.Seen.{told_nothing};
 
-// The rows of document 01's table "Numbers a refusal gives"; specs/Fault.antt has their numbers.
+// The rows of document 01's table "Numbers a refusal gives", and their numbers.
 #[derive(Clone, Copy)]
 pub enum Fault {
-    Edition,
-    Long,
-    Cut,
-    Mark,
-    Version,
-    Count,
-    Form,
-    Field,
-    Unknown,
-    Foreign,
-    Date,
-    Size,
-    Over,
-    Table,
-    Stated,
-    Absent,
-    Text,
-    Rules,
-    Large,
-    Room,
-    Full,
-    Last,
-    Offset,
+    Edition = 1,
+    Long = 2,
+    Cut = 3,
+    Mark = 4,
+    Version = 5,
+    Count = 6,
+    Form = 7,
+    Field = 8,
+    Unknown = 9,
+    Foreign = 10,
+    Date = 11,
+    Size = 12,
+    Over = 13,
+    Table = 14,
+    Stated = 15,
+    Absent = 16,
+    Text = 17,
+    Rules = 18,
+    Large = 19,
+    Room = 20,
+    Full = 21,
+    Last = 22,
+    Offset = 29,
 }
 
-// The place past a value, and the value; or the place of a fault, and the fault.
+// Why a call is refused: a fault and its place; or the same fault in a second deck or in given element data.
 #[derive(Clone, Copy)]
-pub enum Read {
-    Got(usize, u64),
-    No(usize, Fault),
-}
-
-// What a call answers: done, with a place or a number as document 01 says; a fault with its place; or the same
-// fault in a second deck or in given element data.
-#[derive(Clone, Copy)]
-pub enum Outcome {
-    Done(usize),
-    No(Fault, usize),
+pub enum Refusal {
+    At(Fault, usize),
     Given(Fault, usize),
 }
 
-// The row of a fault in the table of numbers, from 1.
-fn row_of(fault: Fault) -> u64
-    ensures { row_number result ≡ number_of fault }
-{
-    match fault {
-        Fault::Edition => 1,
-        Fault::Long => 2,
-        Fault::Cut => 3,
-        Fault::Mark => 4,
-        Fault::Version => 5,
-        Fault::Count => 6,
-        Fault::Form => 7,
-        Fault::Field => 8,
-        Fault::Unknown => 9,
-        Fault::Foreign => 10,
-        Fault::Date => 11,
-        Fault::Size => 12,
-        Fault::Over => 13,
-        Fault::Table => 14,
-        Fault::Stated => 15,
-        Fault::Absent => 16,
-        Fault::Text => 17,
-        Fault::Rules => 18,
-        Fault::Large => 19,
-        Fault::Room => 20,
-        Fault::Full => 21,
-        Fault::Last => 22,
-        Fault::Offset => 23,
-    }
-}
+// What a reader answers: the place past a value, and the value; or its refusal.
+pub type Read = Result<(usize, u64), Refusal>;
+
+// What a call answers: a place or a number, as document 01 says; or its refusal.
+pub type Outcome = Result<usize, Refusal>;
 
 // The number of a fault.
 pub fn number_of(fault: Fault) -> u64
     ensures { result ≡ number_of fault }
 {
-    let n = row_of(fault);
-    if 22 < n {
-        return 29;
-    }
-    n
+    fault as u64
 }
 
 // What was read, with nothing told of it but its end.
 pub fn untold(r: Read) -> Read
     ensures { result ≡ told_nothing r }
 {
-    match r {
-        Read::Got(n, _) => Read::Got(n, 0),
-        Read::No(_, _) => r,
-    }
-}
-
-// What a reader says; a refusal is handed on as it is.
-pub fn end_says(r: Read) -> Outcome
-    ensures { result ≡ end_says r }
-{
-    match r {
-        Read::Got(n, _) => Outcome::Done(n),
-        Read::No(p, c) => Outcome::No(c, p),
-    }
-}
-
-// The same refusal as a reader's.
-pub fn no_read(o: Outcome) -> Read
-    ensures { result ≡ no_read o }
-{
-    match o {
-        Outcome::Done(n) => Read::Got(n, 0),
-        Outcome::No(c, p) => Read::No(p, c),
-        Outcome::Given(c, p) => Read::No(p, c),
-    }
+    let (n, _) = r?;
+    Ok((n, 0))
 }
 
 // The same refusal as that of a second deck or of given element data.
-pub fn in_given(o: Outcome) -> Outcome
-    ensures { result ≡ in_given o }
+pub fn in_given<T: Copy>(r: Result<T, Refusal>) -> Result<T, Refusal>
+    ensures { result ≡ in_given r }
 {
-    match o {
-        Outcome::Done(_) => o,
-        Outcome::No(c, p) => Outcome::Given(c, p),
-        Outcome::Given(_, _) => o,
+    match r {
+        Err(Refusal::At(c, p)) => Err(Refusal::Given(c, p)),
+        _ => r,
+    }
+}
+
+// The refusal of a part that starts at a place, by its place in the whole.
+pub fn further(why: Refusal, by: usize) -> Refusal
+    ensures { result ≡ further by why }
+{
+    match why {
+        Refusal::At(c, p) => Refusal::At(c, by.wrapping_add(p)),
+        Refusal::Given(c, p) => Refusal::Given(c, p),
     }
 }

@@ -1,9 +1,10 @@
 -- What an edit is given: a text and an element. Document 01, "Numbers a refusal gives".
-use Rattle.std.specs.Prelude.{ℕ, ◌+◌, ◌*◌, ◌%◌, Bool, ◌&&◌, List, [], ◌∷◌, leb, eqb, length}
+use Rattle.std.specs.Prelude.{ℕ, ◌+◌, ◌*◌, ◌%◌, Bool, ◌&&◌, List, [], ◌∷◌, leb, eqb, length, Ok, Err}
 use Rattle.format.specs.Format.{Answer, refused, mapped, whole}
 use Rattle.text.specs.Text.{Text, shortest}
 use Rattle.kind.specs.declared.Product.{Product}
-use Rattle.kind.specs.declared.Row.{Row}
+use Rattle.kind.specs.Answers.{Row}
+use Rattle.format.specs.declared.Refusal.TheVariants.{At, Given}
 use Rattle.kind.specs.Kinds.{row_of}
 use Rattle.element.specs.Data.{Data, data_of}
 use Rattle.element.specs.Element.{Element}
@@ -27,8 +28,9 @@ abbrev pub with_data : ℕ → Data → Element
 with_data id d = (id, d)
 
 abbrev pub given_by : Row → ℕ → List ℕ → Answer Element
-given_by (Row.Is k) id s = mapped (with_data id) (whole (length s) ((data_of k).read s))
-given_by (Row.No c q) id s = refused c q
+given_by (Ok k) id s = mapped (with_data id) (whole (length s) ((data_of k).read s))
+given_by (Err (At c q)) id s = refused c q
+given_by (Err (Given c q)) id s = refused c q
 
 unfoldable pub given : Product → ℕ → List ℕ → Answer Element
 given p id s = given_by (row_of p id) id s

@@ -5,8 +5,8 @@ ghost use Rattle.std.specs.Prelude.{◌≡◌};
 ghost use Rattle.format.specs.Laws.Seen.{told, none};
 ghost use Rattle.given.specs.Given.{is_text, given};
 
-use format::{Fault, Read};
-use kind::{Product, Row};
+use format::{Fault, Read, Refusal};
+use kind::Product;
 
 // Whether bytes are a name or a word: an even number of them, at most 510.
 pub fn is_text(s: &[u8]) -> bool
@@ -19,16 +19,13 @@ pub fn is_text(s: &[u8]) -> bool
 pub fn given_element(product: Product, identifier: u32, s: &[u8]) -> Read
     ensures { result ≡ told 0 none (given product identifier s.now) }
 {
-    let row = row::row_for(product, identifier as u64);
-    let Row::Is(kind) = row else {
-        return format::no_read(kind::kind_says(row));
-    };
+    let kind = row::row_for(product, identifier as u64)?;
     let r = element::data_at(s, 0, kind);
-    let Read::Got(e, _) = r else {
+    let Ok((e, _)) = r else {
         return r;
     };
     if e != s.len() {
-        return Read::No(e, Fault::Over);
+        return Err(Refusal::At(Fault::Over, e));
     }
-    Read::Got(e, 0)
+    Ok((e, 0))
 }

@@ -7,18 +7,18 @@ ghost use Rattle.element.specs.Element.{element};
 ghost use Rattle.element.specs.Laws.Element.{named};
 ghost use Rattle.element.specs.Data.{data_of};
 
-use format::{Fault, Read};
-use kind::{Kind, Product, Row};
+use format::{Fault, Read, Refusal};
+use kind::{Kind, Product};
 
 // The data of a kind, of which the identifier is told.
 fn named_data_at(s: &[u8], at: usize, kind: Kind, identifier: u64) -> Read
     ensures { result ≡ seen (λ d. identifier) (data_of kind) s.now at }
 {
     let d = element::data_at(s, at, kind);
-    let Read::Got(q, _) = d else {
+    let Ok((q, _)) = d else {
         return d;
     };
-    Read::Got(q, identifier)
+    Ok((q, identifier))
 }
 
 // The element at the start of a part; its value is its identifier.
@@ -26,14 +26,11 @@ fn read_element(rest: &[u8], product: Product) -> Read
     ensures { result ≡ seen named (element product) rest.now 0 }
 {
     let r = wire::u32_at(rest, 0);
-    let Read::Got(p, identifier) = r else {
+    let Ok((p, identifier)) = r else {
         return r;
     };
-    let row = row::row_for(product, identifier);
-    match row {
-        Row::Is(kind) => named_data_at(rest, p, kind, identifier),
-        Row::No(c, _) => Read::No(0, c),
-    }
+    let kind = row::row_for(product, identifier)?;
+    named_data_at(rest, p, kind, identifier)
 }
 
 // The element at a place.
@@ -41,12 +38,12 @@ pub fn element_at(s: &[u8], at: usize, product: Product) -> Read
     ensures { result ≡ seen named (element product) s.now at }
 {
     if s.len() < at {
-        return Read::No(at, Fault::Cut);
+        return Err(Refusal::At(Fault::Cut, at));
     }
     let rest = &s[at..];
     let r = read_element(rest, product);
     match r {
-        Read::Got(n, identifier) => Read::Got(at + n, identifier),
-        Read::No(p, c) => Read::No(at + p, c),
+        Ok((n, identifier)) => Ok((at + n, identifier)),
+        Err(why) => Err(format::further(why, at)),
     }
 }

@@ -8,10 +8,11 @@ ghost use Rattle.insert.specs.Laws.Copy.{copy_size, Puts};
 ghost use Rattle.place.specs.Laws.Place.{lost};
 ghost use Rattle.insert.specs.Laws.Insert.{Sizes, Copied, Inserts, Copies, Copyable};
 
-use format::{Fault, Outcome, Read};
-use spot::{Site, Spot};
+use format::{Fault, Outcome, Refusal};
+use spot::Site;
 
 // A rule at a place of the buffer, with the head of place i: what stands before its head, and its elements, are given; its Data Size is put anew.
+#[tactic(auto, using(crate::specs::Laws::Copy::put_copied))]
 fn put_rule(buf: &mut [u8], at: usize, front: &[u8], els: &[u8], i: u64)
     requires { (6 ≤ length front.now) × (at + copy_size front.now els.now i ≤ length buf.old) }
     ensures { Puts buf.old at front.now els.now i buf.new }
@@ -25,6 +26,7 @@ fn put_rule(buf: &mut [u8], at: usize, front: &[u8], els: &[u8], i: u64)
 }
 
 // The rule of these parts at place k, the place that was found; the buffer has room for it.
+#[tactic(auto, using(crate::specs::Laws::Insert::copied_holds))]
 fn put_copy(buf: &mut [u8], f: Site, k: u64, len: usize, front: &[u8], els: &[u8])
     requires { Sizes f k buf.old front.now els.now × (len ≡ copy_size front.now els.now k) × (len ≤ 200000) × (f.bytes + (len - lost k f.rules) ≤ length buf.old) }
     ensures { Copied f k front.now els.now buf.old buf.new }
@@ -34,19 +36,17 @@ fn put_copy(buf: &mut [u8], f: Site, k: u64, len: usize, front: &[u8], els: &[u8
 }
 
 // The same, with 18, 19, 20 judged.
+#[tactic(auto, using(room::specs::Laws::Room::roomy, crate::specs::Laws::Insert::inserts_out, crate::specs::Laws::Insert::inserts_done))]
 fn copy_rule(buf: &mut [u8], f: Site, k: u64, front: &[u8], els: &[u8]) -> Outcome
     requires { Sizes f k buf.old front.now els.now }
     ensures { Inserts f k front.now els.now buf.old result buf.new }
 {
     let len = front.len() + head::head_size(k) + els.len();
     let n = f.bytes + (len - place::lost_at(k, f.rules));
-    let o = room::room_for(f.rules + 1, n + deck::wide_of(f.version), buf.len());
-    let Outcome::Done(_) = o else {
-        return o;
-    };
+    let size = room::room_for(f.rules + 1, n + deck::wide_of(f.version), buf.len())?;
     put_copy(buf, f, k, len, front, els);
     plan::finish(buf, f, f.rules + 1, n);
-    o
+    Ok(size)
 }
 
 // A copy of rule j of the second deck, where g was found.
@@ -55,17 +55,14 @@ fn insert_copy(buf: &mut [u8], f: Site, k: u64, second: &[u8], g: Site, j: u64) 
     ensures { Copies f k second.now j g buf.old result buf.new }
 {
     if f.rules < k {
-        return Outcome::No(Fault::Absent, 0);
+        return Err(Refusal::At(Fault::Absent, 0));
     }
     if g.rules <= j {
-        return Outcome::No(Fault::Absent, 1);
+        return Err(Refusal::At(Fault::Absent, 1));
     }
     let start = g.start;
     let end = g.end;
-    let t = steps::name_end(second, start);
-    let Read::Got(name, _) = t else {
-        return format::in_given(format::end_says(t));
-    };
+    let (name, _) = format::in_given(steps::name_end(second, start))?;
     let head = name + 26;
     let first = head + head::head_size(j);
     let front = &second[start..head];
@@ -78,10 +75,7 @@ fn insert_from(edition: u64, buf: &mut [u8], f: Site, k: u64, second: &[u8], j: 
     requires { Within f buf.old × (f.start + lost k f.rules ≤ f.bytes) }
     ensures { Makes edition (λ rs. k) f (insert k second.now j) buf.old result buf.new }
 {
-    let h = locate::locate(edition, second, j);
-    let Spot::Is(g) = h else {
-        return format::in_given(spot::spot_says(h));
-    };
+    let g = format::in_given(locate::locate(edition, second, j))?;
     insert_copy(buf, f, k, second, g, j)
 }
 
@@ -89,9 +83,6 @@ fn insert_from(edition: u64, buf: &mut [u8], f: Site, k: u64, second: &[u8], j: 
 pub fn insert(edition: u64, buf: &mut [u8], n: usize, k: u64, second: &[u8], j: u64) -> Outcome
     ensures { Edits edition n (insert k second.now j) buf.old result buf.new }
 {
-    let f = plan::find(edition, buf, n, k);
-    let Spot::Is(site) = f else {
-        return spot::spot_says(f);
-    };
+    let site = plan::find(edition, buf, n, k)?;
     insert_from(edition, buf, site, k, second, j)
 }

@@ -1,25 +1,20 @@
 -- The kinds of elements: document 01, "The deck", the table of identifiers and the two editions.
-use Rattle.std.specs.Prelude.{ℕ, Bool, true, false, ◌||◌, List, [], ◌∷◌, ◌++◌, eqb}
+use Rattle.std.specs.Prelude.{ℕ, Bool, true, false, ◌||◌, List, [], ◌∷◌, ◌++◌, eqb, Ok, Err, Some, None}
 use Rattle.format.specs.declared.Fault.{Fault}
-use Rattle.format.specs.declared.Fault.TheVariants as Fault
-use Rattle.format.specs.declared.Outcome.{Outcome}
-use Rattle.format.specs.declared.Outcome.TheVariants as Outcome
+use Rattle.kind.specs.Answers.{Edition, Row}
+use Rattle.format.specs.declared.Refusal.TheVariants.{At}
 use Rattle.format.specs.Fault.{Said}
 use Rattle.format.specs.Format.{pick}
 use Rattle.kind.specs.declared.Product.{Product}
 use Rattle.kind.specs.declared.Product.TheVariants.{Desk, Studio}
-use Rattle.kind.specs.declared.Edition.{Edition}
-use Rattle.kind.specs.declared.Edition.TheVariants as Edition
 use Rattle.kind.specs.declared.Role.{Role}
 use Rattle.kind.specs.declared.Role.TheVariants.{Condition, Action, Exception}
 use Rattle.kind.specs.declared.Kind.{Kind}
 use Rattle.kind.specs.declared.Kind.TheVariants.{Marker, Simple, WordList, Size, Dates}
-use Rattle.kind.specs.declared.Row.{Row}
-use Rattle.kind.specs.declared.Row.TheVariants.{Is, No}
 
 -- "two editions (1 Desk, 2 Studio)"
 unfoldable pub edition_of : ℕ → Edition
-edition_of n = pick (eqb n 1) (Edition.Of Desk) (pick (eqb n 2) (Edition.Of Studio) Edition.Unknown)
+edition_of n = pick (eqb n 1) (Some Desk) (pick (eqb n 2) (Some Studio) None)
 
 -- the table: kind, identifiers (hex)
 abbrev pub kinds : List (Kind × List ℕ)
@@ -42,8 +37,8 @@ has (x ∷ xs) n = eqb n x || has xs n
 
 -- the row that has an identifier; 9 where none has
 unfoldable pub row_in : List (Kind × List ℕ) → ℕ → Row
-row_in [] id = No Fault.Unknown 0
-row_in ((k, ids) ∷ rows) id = pick (has ids id) (Is k) (row_in rows id)
+row_in [] id = Err (At Fault.Unknown 0)
+row_in ((k, ids) ∷ rows) id = pick (has ids id) (Ok k) (row_in rows id)
 
 -- "Desk has the marker, simple conditions and simple actions"
 abbrev pub in_desk : Kind → Bool
@@ -62,8 +57,8 @@ in_product Studio k = true
 
 -- 10 where the row is not in the product
 unfoldable pub offered : Product → Row → Row
-offered p (Is k) = pick (in_product p k) (Is k) (No Fault.Foreign 0)
-offered p (No c q) = No c q
+offered p (Ok k) = pick (in_product p k) (Ok k) (Err (At Fault.Foreign 0))
+offered p (Err why) = Err why
 
 unfoldable pub row_of : Product → ℕ → Row
 row_of p id = offered p (row_in kinds id)
@@ -88,12 +83,12 @@ kind_values (Dates r) = 6 ∷ role_number r ∷ []
 
 -- the answer as document 01 has it
 abbrev pub kind_says : Row → Said
-kind_says (Is k) = (Outcome.Done 0, kind_values k)
-kind_says (No c q) = (Outcome.No c q, [])
+kind_says (Ok k) = (Ok 0, kind_values k)
+kind_says (Err why) = (Err why, [])
 
 unfoldable pub row_by : Edition → ℕ → Said
-row_by (Edition.Of p) id = kind_says (row_of p id)
-row_by Edition.Unknown id = (Outcome.No Fault.Edition 0, [])
+row_by (Some p) id = kind_says (row_of p id)
+row_by None id = (Err (At Fault.Edition 0), [])
 
 unfoldable pub kind_of : ℕ → ℕ → Said
 kind_of edition id = row_by (edition_of edition) id

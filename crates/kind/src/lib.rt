@@ -2,31 +2,24 @@
 #![tactic(auto)]
 
 ghost use Rattle.std.specs.Prelude.{◌≡◌};
-ghost use Rattle.kind.specs.Kinds.{edition_of, kind_says};
+ghost use Rattle.kind.specs.Kinds.{edition_of};
 
-use format::{Fault, Outcome};
+use format::Refusal;
 
-#[derive(Clone, Copy)]
+#[derive(Debug, Clone, Copy, PartialEq, Eq)]
 pub enum Product {
     Desk,
     Studio,
 }
 
-// What the number of an edition answers.
-#[derive(Clone, Copy)]
-pub enum Edition {
-    Of(Product),
-    Unknown,
-}
-
-#[derive(Clone, Copy)]
+#[derive(Debug, Clone, Copy, PartialEq, Eq)]
 pub enum Role {
     Condition,
     Action,
     Exception,
 }
 
-#[derive(Clone, Copy)]
+#[derive(Debug, Clone, Copy, PartialEq, Eq)]
 pub enum Kind {
     Marker,
     Simple(Role),
@@ -35,30 +28,17 @@ pub enum Kind {
     Dates(Role),
 }
 
-// What an identifier answers: its row of the kinds, or a fault with its place.
-#[derive(Clone, Copy)]
-pub enum Row {
-    Is(Kind),
-    No(Fault, usize),
-}
+// What an identifier answers: its row of the kinds, or a refusal.
+pub type Row = Result<Kind, Refusal>;
 
 // The product of an edition's number.
-pub fn edition_of(edition: u64) -> Edition
+#[tactic(auto, unfolding(crate::specs::Kinds::edition_of, format::specs::Format::pick))]
+pub fn edition_of(edition: u64) -> Option<Product>
     ensures { result ≡ edition_of edition }
 {
     match edition {
-        1 => Edition::Of(Product::Desk),
-        2 => Edition::Of(Product::Studio),
-        _ => Edition::Unknown,
-    }
-}
-
-// What an identifier's row says.
-pub fn kind_says(row: Row) -> Outcome
-    ensures { result ≡ (kind_says row).0 }
-{
-    match row {
-        Row::Is(_) => Outcome::Done(0),
-        Row::No(c, p) => Outcome::No(c, p),
+        1 => Some(Product::Desk),
+        2 => Some(Product::Studio),
+        _ => None,
     }
 }

@@ -1,6 +1,6 @@
 -- What a date says goes into a lent table of numbers: docs/DECISIONS.md, 51.
 use Rattle.std.specs.Prelude.{ℕ, List}
-use Rattle.format.specs.declared.Outcome.{Outcome}
+use Rattle.format.specs.Answers.{Outcome}
 use Rattle.format.specs.Fault.{Said}
 use Rattle.date.specs.Double.{accepted}
 use Rattle.moment.specs.Moment.{SaysBy}

@@ -3,19 +3,21 @@
 
 ghost use Rattle.lent_moment.specs.Moment.{LendsMoment};
 
-use format::Outcome;
-use moment::Moment;
+use format::{Outcome, Refusal};
 
 // What the date of these bits says.
+#[tactic(auto, using(crate::specs::Laws::Narrow::moment_narrow))]
 pub fn moment(bits: u64, t: &mut [u32]) -> Outcome
     ensures { LendsMoment bits t.old result t.new }
 {
-    let m = moment::moment_of(bits);
-    match m {
-        Moment::At(c, second) => lent::put_row(
-            t,
-            &[c.year as u32, c.month as u32, c.day as u32, second as u32],
-        ),
-        Moment::No(c, p) => Outcome::No(c, p),
-    }
+    let (date, second) = moment::moment_of(bits)?;
+    lent::put_row(
+        t,
+        &[
+            date.year as u32,
+            date.month as u32,
+            date.day as u32,
+            second as u32,
+        ],
+    )
 }

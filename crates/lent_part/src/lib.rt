@@ -2,34 +2,23 @@
 #![tactic(auto)]
 
 ghost use Rattle.std.specs.Prelude.{◌≡◌};
-ghost use Rattle.view.specs.View.{form_number, part_says};
+ghost use Rattle.view.specs.View.{part_says};
 ghost use Rattle.name_view.specs.Name.{name_view};
 ghost use Rattle.word_view.specs.Word.{word_view};
 ghost use Rattle.view.specs.Laws.View.{Inside};
 ghost use Rattle.lent.specs.Lent.{part_width, Lends};
 
 use format::Outcome;
-use text::Form;
 use view::View;
 
-fn form_number(form: Form) -> u32
-    ensures { result ≡ form_number form }
-{
-    match form {
-        Form::Short => 0,
-        Form::Long => 1,
-    }
-}
-
 // A view by its numbers.
+#[tactic(auto, using(view::specs::Laws::View::inside_at), unfolding(lent::specs::Lent::lent_says, lent::specs::Lent::lent_leaves))]
 fn put_part(t: &mut [u32], v: View) -> Outcome
     requires { Inside v 60000 }
     ensures { Lends part_width t.old (part_says v) result t.new }
 {
-    match v {
-        View::At(a, b, form) => lent::put_row(t, &[a as u32, b as u32, form_number(form)]),
-        View::No(c, p) => Outcome::No(c, p),
-    }
+    let (a, b, form) = v?;
+    lent::put_row(t, &[a as u32, b as u32, form as u32])
 }
 
 // The name of rule k.

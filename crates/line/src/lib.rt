@@ -8,11 +8,12 @@ ghost use Rattle.line.specs.Laws.Line.{numbers_line};
 ghost use Rattle.line.specs.Laws.Adds.{Adds};
 
 // More bytes of a line that has at; answers how many it has then.
+#[inline(always)]
 fn add(line: &mut [u8], at: usize, more: &[u8]) -> usize
     requires { at + length more.now ≤ length line.old }
     ensures { Adds line.old at more.now result line.new }
 {
-    buffer::put_bytes(line, at, more);
+    line[at..at + more.len()].copy_from_slice(more);
     at + more.len()
 }
 

@@ -7,61 +7,62 @@ ghost use Rattle.rule.specs.Rule.{rule};
 ghost use Rattle.walk.specs.Laws.Elements.{Carries};
 ghost use Rattle.list.specs.Laws.List.{list_of, last_list};
 
-use format::{Fault, Read};
-use kind::{Kind, Product, Row};
+use format::{Fault, Read, Refusal};
+use kind::{Kind, Product};
 
 // The number of words of the data of a list, and where it stands: at their start.
+#[tactic(auto, using(crate::specs::Laws::List::list_cut, crate::specs::Laws::List::list_is))]
 fn word_count(s: &[u8], at: usize) -> Read
     ensures { Where word_data s.now at (list_of at) result }
 {
     let z = wire::u32_at(s, at);
-    let Read::Got(_, count) = z else {
+    let Ok((_, count)) = z else {
         return z;
     };
-    Read::Got(at, count)
+    Ok((at, count))
 }
 
 // The same of the data of a kind.
+#[tactic(auto, using(walk::specs::Laws::Elements::of_kind, crate::specs::Laws::List::list_other))]
 fn list_of(s: &[u8], at: usize, kind: Kind) -> Read
     ensures { Where (data_of kind) s.now at (list_of at) result }
 {
     match kind {
         Kind::WordList => word_count(s, at),
-        Kind::Marker => Read::No(0, Fault::Last),
-        Kind::Simple(_) => Read::No(0, Fault::Last),
-        Kind::Size(_) => Read::No(0, Fault::Last),
-        Kind::Dates(_) => Read::No(0, Fault::Last),
+        Kind::Marker => Err(Refusal::At(Fault::Last, 0)),
+        Kind::Simple(_) => Err(Refusal::At(Fault::Last, 0)),
+        Kind::Size(_) => Err(Refusal::At(Fault::Last, 0)),
+        Kind::Dates(_) => Err(Refusal::At(Fault::Last, 0)),
     }
 }
 
 // The same of the element at place j of its rule.
+#[tactic(auto, using(walk::specs::Laws::Elements::carries_cut, walk::specs::Laws::Elements::carries_none))]
 fn list_in(s: &[u8], at: usize, product: Product, j: u64) -> Read
     ensures { Carries product s.now at j list_of result }
 {
     let x = walk::identifier_at(s, at, j);
-    let Read::Got(q, identifier) = x else {
+    let Ok((q, identifier)) = x else {
         return x;
     };
-    let row = row::row_for(product, identifier);
-    let Row::Is(kind) = row else {
-        return format::no_read(kind::kind_says(row));
-    };
+    let kind = row::row_for(product, identifier)?;
     list_of(s, q, kind)
 }
 
 // The same of the last element of rule i, which starts at a place.
+#[tactic(auto, using(crate::specs::Laws::List::last_list_cut, crate::specs::Laws::List::last_list_none, crate::specs::Laws::List::last_list_never, crate::specs::Laws::List::last_list_is))]
 pub fn list_at(s: &[u8], at: usize, product: Product, i: u64) -> Read
     ensures { Where (rule product i) s.now at (last_list product i at) result }
 {
     let c = walk::elements_of(s, at, i);
-    let Read::Got(p, count) = c else {
+    let Ok((p, count)) = c else {
         return c;
     };
     if count == 0 {
-        return Read::No(0, Fault::Last);
+        return Err(Refusal::At(Fault::Last, 0));
     }
     let r = walk::element_start(s, p, product, count - 1);
-    let Read::Got(t, _) = r else {
+    let Ok((t, _)) = r else {
         return r;
     };
     list_in(s, t, product, count - 1)

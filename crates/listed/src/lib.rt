@@ -6,8 +6,6 @@ ghost use Rattle.format.specs.Combinators.{number};
 ghost use Rattle.line.specs.Line.{Lined};
 ghost use Rattle.listed.specs.Listed.{entry as Listed·entry, version_in, deck_listed, is_on, rule_listed, element_listed};
 
-use format::Read;
-
 // Number j of a row; 0 past its end.
 pub fn entry(row: &[u32], j: usize) -> u32
     ensures { result ≡ Listed·entry row.now j }
@@ -24,8 +22,8 @@ fn version_of(s: &[u8]) -> u64
 {
     let r = wire::u16_at(s, 3);
     match r {
-        Read::Got(_, version) => version,
-        Read::No(_, _) => 0,
+        Ok((_, version)) => version,
+        Err(_) => 0,
     }
 }
 
@@ -43,8 +41,8 @@ fn is_on(s: &[u8], at: usize) -> bool
 {
     let r = wire::u32_at(s, at);
     match r {
-        Read::Got(_, enabled) => enabled == 1,
-        Read::No(_, _) => false,
+        Ok((_, enabled)) => enabled == 1,
+        Err(_) => false,
     }
 }
 

@@ -6,8 +6,6 @@ ghost use Rattle.deck.specs.Deck.{read_deck};
 ghost use Rattle.locate.specs.Laws.Located.{located, last_of};
 ghost use Rattle.locate.specs.Laws.Spots.{Spots};
 
-use format::Read;
-use scan::Scan;
 use spot::{Site, Spot};
 
 // Where rule k of a sound deck of n rules stands, which start at base.
@@ -15,7 +13,7 @@ fn spot_of(s: &[u8], version: u64, base: usize, n: u64, k: u64) -> Spot
     ensures { Spots s.now version base n k result }
 {
     if n <= k {
-        return Spot::Is(Site {
+        return Ok(Site {
             bytes: s.len(),
             version,
             rules: n,
@@ -24,15 +22,9 @@ fn spot_of(s: &[u8], version: u64, base: usize, n: u64, k: u64) -> Spot
             end: s.len(),
         });
     }
-    let f = steps::rule_start(s, version, base, k);
-    let Read::Got(start, _) = f else {
-        return spot::no_spot(format::end_says(f));
-    };
-    let e = steps::end_of(s, start);
-    let Read::Got(end, _) = e else {
-        return spot::no_spot(format::end_says(e));
-    };
-    Spot::Is(Site {
+    let (start, _) = steps::rule_start(s, version, base, k)?;
+    let (end, _) = steps::end_of(s, start)?;
+    Ok(Site {
         bytes: s.len(),
         version,
         rules: n,
@@ -46,10 +38,7 @@ fn spot_of(s: &[u8], version: u64, base: usize, n: u64, k: u64) -> Spot
 pub fn locate(edition: u64, s: &[u8], k: u64) -> Spot
     ensures { result ≡ located (λ rs. k) (read_deck edition s.now) }
 {
-    let c = deck::pass(edition, s);
-    let Scan::Is(version, base, n, _) = c else {
-        return spot::no_spot(scan::scan_says(c));
-    };
+    let (version, base, n, _) = deck::pass(edition, s)?;
     spot_of(s, version, base, n, k)
 }
 
@@ -57,12 +46,9 @@ pub fn locate(edition: u64, s: &[u8], k: u64) -> Spot
 pub fn last(edition: u64, s: &[u8]) -> Spot
     ensures { result ≡ located last_of (read_deck edition s.now) }
 {
-    let c = deck::pass(edition, s);
-    let Scan::Is(version, base, n, _) = c else {
-        return spot::no_spot(scan::scan_says(c));
-    };
-    if n == 0 {
+    let (version, base, rules, _) = deck::pass(edition, s)?;
+    if rules == 0 {
         return spot_of(s, version, base, 0, 0);
     }
-    spot_of(s, version, base, n, n - 1)
+    spot_of(s, version, base, rules, rules - 1)
 }

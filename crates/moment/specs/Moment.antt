@@ -1,14 +1,13 @@
 -- What a date says: document 01, "Dates".
-use Rattle.std.specs.Prelude.{ℕ, ◌+◌, ◌-◌, ◌*◌, ◌/◌, ◌%◌, ◌≡◌, Bool, true, false, [], ◌∷◌}
-use Rattle.format.specs.declared.Outcome.TheVariants as Outcome
+use Rattle.std.specs.Prelude.{ℕ, ◌+◌, ◌-◌, ◌*◌, ◌/◌, ◌%◌, ◌≡◌, Bool, true, false, [], ◌∷◌, Ok, Err}
+use Rattle.moment.specs.Answers.{Moment}
+use Rattle.format.specs.declared.Refusal.TheVariants.{At}
 use Rattle.format.specs.Fault.{Said}
 use Rattle.format.specs.Format.{pick}
 use Rattle.format.specs.declared.Fault.TheVariants as Fault
 use Rattle.civil.specs.declared.Civil.{Civil}
 use Rattle.civil.specs.Calendar.{Valid, day_of}
 use Rattle.date.specs.Double.{negative, size, day, accepted}
-use Rattle.moment.specs.declared.Moment.{Moment}
-use Rattle.moment.specs.declared.Moment.TheVariants.{At, No}
 
 -- "days from 30 December 1899"
 unfoldable pub origin : ℕ
@@ -27,13 +26,13 @@ second_in bits = size bits % day * 86400 / day
 
 -- the answer as document 01 has it: year, month, day, and the second of the day
 abbrev pub moment_says : Moment → Said
-moment_says (At c second) = (Outcome.Done 0, c.year ∷ c.month ∷ c.day ∷ second ∷ [])
-moment_says (No fault place) = (Outcome.No fault place, [])
+moment_says (Ok (c, second)) = (Ok 0, c.year ∷ c.month ∷ c.day ∷ second ∷ [])
+moment_says (Err why) = (Err why, [])
 
 -- of a date, what the calendar has for its day, and its second; "a lone date answers 11 at 0"
 abbrev pub SaysBy : Bool → ℕ → Said → Type 0
-SaysBy true bits x = (c : Civil) × ((Valid c × (day_of c ≡ day_in bits)) × (x ≡ moment_says (At c (second_in bits))))
-SaysBy false bits x = x ≡ moment_says (No Fault.Date 0)
+SaysBy true bits x = (c : Civil) × ((Valid c × (day_of c ≡ day_in bits)) × (x ≡ moment_says (Ok (c, second_in bits))))
+SaysBy false bits x = x ≡ moment_says (Err (At Fault.Date 0))
 
 unfoldable pub Says : ℕ → Moment → Type 0
 Says bits r = SaysBy (accepted bits) bits (moment_says r)

@@ -6,13 +6,16 @@ ghost use Rattle.date.specs.Double.{exponent, digits, accepted};
 ghost use Rattle.moment.specs.Moment.{whole_days, day_in, second_in, Says};
 
 use civil::Civil;
-use format::Fault;
+use format::{Fault, Refusal};
 
-// A civil date and the second of its day, or a fault and its place.
+// A civil date and the second of its day, or a refusal.
+pub type Moment = Result<(Civil, u64), Refusal>;
+
+// The bits of an accepted date.
 #[derive(Clone, Copy)]
-pub enum Moment {
-    At(Civil, u64),
-    No(Fault, usize),
+struct Date {
+    bits: u64,
+    ghost accepted: { accepted bits ≡ true },
 }
 
 fn exponent_of(bits: u64) -> u64
@@ -29,24 +32,24 @@ fn digits_of(bits: u64) -> u64
 }
 
 // The whole days of a date, without its sign.
-fn whole_of(bits: u64) -> u64
-    requires { accepted bits ≡ true }
-    ensures { result ≡ whole_days bits }
+#[tactic(auto, using(crate::proofs::Shift::whole_none, crate::proofs::Shift::whole_shift, crate::proofs::Shift::exponent_most))]
+fn whole_of(date: Date) -> u64
+    ensures { result ≡ whole_days date.bits }
 {
-    let e = exponent_of(bits);
+    let e = exponent_of(date.bits);
     if e < 1023 {
         return 0;
     }
-    digits_of(bits) >> (1075 - e)
+    digits_of(date.bits) >> (1075 - e)
 }
 
 // The digits of the fraction, the last counting as the last of the 53.
-fn fraction_of(bits: u64) -> u64
-    requires { accepted bits ≡ true }
-    ensures { (result ≡ (2 ^ 52 + digits bits) % 2 ^ (1075 - exponent bits)) × (result < 2 ^ 53) }
+#[tactic(auto, using(crate::proofs::Shift::all_fraction, crate::proofs::Shift::cut_fraction, crate::proofs::Shift::shifted_pos, crate::proofs::Shift::exponent_most))]
+fn fraction_of(date: Date) -> u64
+    ensures { (result ≡ (2 ^ 52 + digits date.bits) % 2 ^ (1075 - exponent date.bits)) × (result < 2 ^ 53) }
 {
-    let e = exponent_of(bits);
-    let q = digits_of(bits);
+    let e = exponent_of(date.bits);
+    let q = digits_of(date.bits);
     if e < 1023 {
         return q;
     }
@@ -54,36 +57,38 @@ fn fraction_of(bits: u64) -> u64
 }
 
 // The second of the day. 86400 is 675 * 2 ^ 7, and less than 2 ^ -17 of a day is no whole second.
-fn second_in(bits: u64) -> u64
-    requires { accepted bits ≡ true }
-    ensures { result ≡ second_in bits }
+#[tactic(auto, using(crate::proofs::Shift::second_none, crate::proofs::Shift::second_shift, crate::proofs::Shift::exponent_most), unfolding(crate::specs::Moment::second_in))]
+fn second_in(date: Date) -> u64
+    ensures { result ≡ second_in date.bits }
 {
-    let e = exponent_of(bits);
+    let e = exponent_of(date.bits);
     if e < 1006 {
         return 0;
     }
-    (fraction_of(bits) * 675) >> (1068 - e)
+    (fraction_of(date) * 675) >> (1068 - e)
 }
 
 // The day, counted from 1 January 100; 30 December 1899 is day 657434.
-fn day_in(bits: u64) -> u64
-    requires { accepted bits ≡ true }
-    ensures { result ≡ day_in bits }
+#[tactic(auto, using(crate::proofs::Shift::whole_small, crate::proofs::Shift::whole_before, crate::proofs::Shift::day_before, crate::proofs::Shift::day_after))]
+fn day_in(date: Date) -> u64
+    ensures { result ≡ day_in date.bits }
 {
-    let w = whole_of(bits);
-    if bits >= 0x8000_0000_0000_0000 {
+    let w = whole_of(date);
+    if date.bits >= 0x8000_0000_0000_0000 {
         return 657434 - w;
     }
     657434 + w
 }
 
 // What the date of these bits says. A lone date is refused at 0.
+#[tactic(auto, using(crate::specs::Laws::Moment::says_at, crate::specs::Laws::Moment::says_no))]
 pub fn moment_of(bits: u64) -> Moment
     ensures { Says bits result }
 {
     if date::is_date(bits) {
-        let c = civil::civil_of(day_in(bits));
-        return Moment::At(c, second_in(bits));
+        let date = Date { bits };
+        let c = civil::civil_of(day_in(date));
+        return Ok((c, second_in(date)));
     }
-    Moment::No(Fault::Date, 0)
+    Err(Refusal::At(Fault::Date, 0))
 }

@@ -7,20 +7,16 @@ ghost use Rattle.view.specs.Laws.View.{Inside};
 ghost use Rattle.view.specs.View.{PartOf, view_says};
 ghost use Rattle.name_view.specs.Name.{name_at, name_view};
 
-use format::{Fault, Outcome, Read};
-use scan::Scan;
+use format::{Fault, Outcome, Refusal};
 use view::View;
 
 // The name of rule k of a sound deck, whose rules start at base.
 fn name_at(s: &[u8], version: u64, base: usize, k: u64) -> View
     ensures { Tells version s.now base k name_at result × Inside result (length s.now) }
 {
-    let r = steps::rule_start(s, version, base, k);
-    let Read::Got(at, _) = r else {
-        return view::no_view(format::end_says(r));
-    };
+    let (at, _) = steps::rule_start(s, version, base, k)?;
     if wire::left(s, at) < 4 {
-        return View::No(Fault::Cut, 0);
+        return Err(Refusal::At(Fault::Cut, 0));
     }
     let t = text::string_at(s, at + 4);
     view::units_of(s, t)
@@ -30,12 +26,9 @@ fn name_at(s: &[u8], version: u64, base: usize, k: u64) -> View
 pub fn find_name(edition: u64, s: &[u8], k: u64) -> View
     ensures { (result ≡ name_view edition k s.now) × Inside result (length s.now) }
 {
-    let c = deck::pass(edition, s);
-    let Scan::Is(version, base, n, _) = c else {
-        return view::no_view(scan::scan_says(c));
-    };
+    let (version, base, n, _) = deck::pass(edition, s)?;
     if n <= k {
-        return View::No(Fault::Absent, 0);
+        return Err(Refusal::At(Fault::Absent, 0));
     }
     name_at(s, version, base, k)
 }

@@ -3,8 +3,6 @@
 
 ghost use Rattle.offsets.specs.Laws.Offsets.{Offsets};
 
-use format::Read;
-
 // Rules, so many, stand behind room for their offsets.
 pub fn put_offsets(buf: &mut [u8], rules: u64)
     ensures { Offsets rules buf.old buf.new }
@@ -12,15 +10,13 @@ pub fn put_offsets(buf: &mut [u8], rules: u64)
     if 256 < rules {
         return;
     }
-    let mut i = 0;
     let mut p = 7 + 4 * (rules as usize);
-    while i < rules {
+    for i in 0..rules {
         buffer::put_number(buf, 7 + 4 * (i as usize), 4, p as u64);
         let r = steps::end_of(buf, p);
-        let Read::Got(q, _) = r else {
+        let Ok((q, _)) = r else {
             return;
         };
         p = q;
-        i += 1;
     }
 }

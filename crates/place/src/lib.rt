@@ -4,10 +4,10 @@
 ghost use Rattle.std.specs.Prelude.{◌≡◌, ◌≤◌, ◌<◌};
 ghost use Rattle.place.specs.Laws.Place.{lost, Opens};
 
-use format::Read;
 use spot::Site;
 
 // How many bytes the rules from place k of m lose where a rule comes before them: the old first rule gives its long head up.
+#[tactic(auto, using(crate::specs::Laws::Place::lost_later, crate::specs::Laws::Place::lost_none, crate::specs::Laws::Place::lost_first))]
 pub fn lost_at(k: u64, m: u64) -> usize
     ensures { (result ≡ lost k m) × (result ≤ 16) }
 {
@@ -21,12 +21,13 @@ pub fn lost_at(k: u64, m: u64) -> usize
 }
 
 // The rule at place 0 gives its long head up, and a gap of len bytes opens before it.
+#[tactic(auto, using(steps::specs::Laws::Steps::name_got, crate::specs::Laws::Place::opens_unnamed, crate::specs::Laws::Place::opens_not, crate::specs::Laws::Place::opens_shift))]
 fn open_first(buf: &mut [u8], f: Site, len: usize)
     requires { (0 < f.rules) × (f.end ≤ f.bytes) × (f.bytes ≤ 60000) × (len ≤ 200000) }
     ensures { Opens f 0 len buf.old buf.new }
 {
     let t = steps::name_end(buf, f.base);
-    let Read::Got(e, _) = t else {
+    let Ok((e, _)) = t else {
         return;
     };
     if f.end < e {
@@ -43,6 +44,7 @@ fn open_first(buf: &mut [u8], f: Site, len: usize)
 }
 
 // A gap of len bytes opens for a rule at place k, the place that was found; what stands behind it becomes what it is behind a rule.
+#[tactic(auto, using(crate::specs::Laws::Place::lost_is, crate::specs::Laws::Place::opens_never, crate::specs::Laws::Place::opens_plain, crate::specs::Laws::Place::opens_first))]
 pub fn open_place(buf: &mut [u8], f: Site, k: u64, len: usize)
     ensures { Opens f k len buf.old buf.new }
 {

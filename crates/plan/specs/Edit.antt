@@ -1,11 +1,12 @@
 -- An edit is a plan: the edited list of rules, or a refusal; a deck keeps its version. Document 01, "Edits and building".
-use Rattle.std.specs.Prelude.{ℕ, ◌-◌, max, Bool, List, [], ◌∷◌, ◌++◌, leb, ltb, length, take, drop, ◌≡◌}
+use Rattle.std.specs.Prelude.{ℕ, ◌-◌, max, Bool, List, [], ◌∷◌, ◌++◌, leb, ltb, length, take, drop, ◌≡◌, Ok, Err, Some, None}
 use Rattle.format.specs.declared.Fault.{Fault}
-use Rattle.format.specs.declared.Outcome.{Outcome}
+use Rattle.kind.specs.Answers.{Edition}
+use Rattle.format.specs.Answers.{Outcome}
+use Rattle.format.specs.declared.Refusal.TheVariants.{At, Given}
 use Rattle.format.specs.Format.{Answer, got, refused, pick}
 use Rattle.text.specs.Text.{Text}
 use Rattle.kind.specs.declared.Product.{Product}
-use Rattle.kind.specs.declared.Edition.{Edition}
 use Rattle.kind.specs.Kinds.{edition_of}
 use Rattle.element.specs.Data.{plain, words, sizes, span}
 use Rattle.element.specs.Element.{Element}
@@ -114,9 +115,9 @@ in_version v (refuse_given c q) = refuse_given c q
 
 -- what 18, 19 and 20 leave of it
 abbrev pub if_done : Outcome → Deck → Plan Deck
-if_done (Outcome.Done n) k = become k
-if_done (Outcome.No c q) k = refuse c q
-if_done (Outcome.Given c q) k = refuse_given c q
+if_done (Ok n) k = become k
+if_done (Err (At c q)) k = refuse c q
+if_done (Err (Given c q)) k = refuse_given c q
 
 abbrev pub in_room : ℕ → Plan Deck → Plan Deck
 in_room cap (become k) = if_done (room_for (length k.rules) (length (afresh k)) cap) k
@@ -130,8 +131,8 @@ plan p cap e (refused c q) = refuse c q
 
 -- "1, 15": an edit of the deck in the first n bytes of the buffer d
 abbrev pub plan_by : Edition → ℕ → List ℕ → Edit → Plan Deck
-plan_by (Edition.Of p) n d e = pick (leb n (length d)) (plan p (length d) e (read_as p (take n d))) (refuse Fault.Stated 0)
-plan_by Edition.Unknown n d e = refuse Fault.Edition 0
+plan_by (Some p) n d e = pick (leb n (length d)) (plan p (length d) e (read_as p (take n d))) (refuse Fault.Stated 0)
+plan_by None n d e = refuse Fault.Edition 0
 
 unfoldable pub planned : ℕ → ℕ → List ℕ → Edit → Plan Deck
 planned edition n d e = plan_by (edition_of edition) n d e
@@ -139,9 +140,9 @@ planned edition n d e = plan_by (edition_of edition) n d e
 -- ---- what a plan answers, "On success the place answered is the new length", and leaves of the buffer:
 -- "Where a deck shrinks, the bytes from new to old length become zero. Bytes beyond the larger of the two stay"; a refusal "changes nothing"
 unfoldable pub says : Plan Deck → Outcome
-says (become k) = Outcome.Done (length (afresh k))
-says (refuse c q) = Outcome.No c q
-says (refuse_given c q) = Outcome.Given c q
+says (become k) = Ok (length (afresh k))
+says (refuse c q) = Err (At c q)
+says (refuse_given c q) = Err (Given c q)
 
 unfoldable pub leaves : ℕ → List ℕ → Plan Deck → List ℕ
 leaves n d (become k) = laid (afresh k) (max n (length (afresh k))) d

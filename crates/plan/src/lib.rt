@@ -6,8 +6,7 @@ ghost use Rattle.locate.specs.Laws.Located.{last_of};
 ghost use Rattle.plan.specs.Laws.Found.{found};
 ghost use Rattle.plan.specs.Laws.Finish.{Reindexes, Finishes};
 
-use format::Fault;
-use kind::Edition;
+use format::{Fault, Refusal};
 use spot::{Site, Spot};
 
 // The deck in the first n bytes of a buffer, and where its rule k stands: 1, 15, 2 to 13.
@@ -15,11 +14,10 @@ pub fn find(edition: u64, buf: &[u8], n: usize, k: u64) -> Spot
     ensures { result ≡ found (λ rs. k) edition n buf.now }
 {
     if buf.len() < n {
-        let e = kind::edition_of(edition);
-        let Edition::Of(_) = e else {
-            return Spot::No(Fault::Edition, 0);
+        let Some(_) = kind::edition_of(edition) else {
+            return Err(Refusal::At(Fault::Edition, 0));
         };
-        return Spot::No(Fault::Stated, 0);
+        return Err(Refusal::At(Fault::Stated, 0));
     }
     let deck = &buf[..n];
     locate::locate(edition, deck, k)
@@ -30,11 +28,10 @@ pub fn find_last(edition: u64, buf: &[u8], n: usize) -> Spot
     ensures { result ≡ found last_of edition n buf.now }
 {
     if buf.len() < n {
-        let e = kind::edition_of(edition);
-        let Edition::Of(_) = e else {
-            return Spot::No(Fault::Edition, 0);
+        let Some(_) = kind::edition_of(edition) else {
+            return Err(Refusal::At(Fault::Edition, 0));
         };
-        return Spot::No(Fault::Stated, 0);
+        return Err(Refusal::At(Fault::Stated, 0));
     }
     let deck = &buf[..n];
     locate::last(edition, deck)

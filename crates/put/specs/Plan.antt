@@ -1,24 +1,19 @@
 -- A value as data, "Turning a value into data": document 01, "Numbers a refusal gives".
-use Rattle.std.specs.Prelude.{ℕ, Bool, ◌&&◌, List, ◌++◌, leb, eqb, length, drop, set, Float, ◌≡◌}
+use Rattle.std.specs.Prelude.{ℕ, Bool, ◌&&◌, List, ◌++◌, leb, eqb, length, drop, Float, ◌≡◌, Ok, Err, Some, None}
 use Rattle.std.specs.Float.{binary64}
 use Rattle.std.specs.Float.Ieee.{to_bits}
 use Rattle.format.specs.declared.Fault.{Fault}
-use Rattle.format.specs.declared.Fault.TheVariants as Fault
-use Rattle.format.specs.declared.Outcome.{Outcome}
-use Rattle.format.specs.declared.Outcome.TheVariants as Outcome
+use Rattle.kind.specs.Answers.{Edition, Row}
+use Rattle.format.specs.Answers.{Outcome}
+use Rattle.format.specs.declared.Refusal.TheVariants.{At, Given}
+use Rattle.format.specs.Fault.{in_given}
 use Rattle.format.specs.Format.{Format, pick}
 use Rattle.date.specs.Double.{accepted}
-use Rattle.kind.specs.declared.Edition.{Edition}
-use Rattle.kind.specs.declared.Edition.TheVariants as Edition
 use Rattle.kind.specs.declared.Kind.{Kind}
-use Rattle.kind.specs.declared.Kind.TheVariants as Kind
-use Rattle.kind.specs.declared.Row.{Row}
-use Rattle.kind.specs.declared.Row.TheVariants as Row
 use Rattle.kind.specs.Kinds.{edition_of, row_of}
 use Rattle.element.specs.Data.{Data, plain, sizes, span, Limit, data_of}
 use Rattle.value.specs.declared.Span.{Span}
 use Rattle.value.specs.declared.Value.{Value}
-use Rattle.value.specs.declared.Value.TheVariants as Value
 
 -- what a value is as data, or a fault with its place
 pub data Fitted : Type 0 where
@@ -72,29 +67,29 @@ pub data Putting : Type 0 where
   deny : Outcome → Putting
 
 unfoldable pub if_room : ℕ → List ℕ → Putting
-if_room room bs = pick (leb (length bs) room) (write bs) (deny (Outcome.No Fault.Room 0))
+if_room room bs = pick (leb (length bs) room) (write bs) (deny (Err (At Fault.Room 0)))
 
 abbrev pub plan_data : Format Data → ℕ → Fitted → Putting
 plan_data a room (holds d) = if_room room (a.write d)
-plan_data a room (lacks c p) = deny (Outcome.Given c p)
+plan_data a room (lacks c p) = deny (Err (Given c p))
 
 unfoldable pub plan_kind : Kind → ℕ → Value → ℕ → Putting
 plan_kind k id v room = plan_data (data_of k) room (fitted k id v)
 
 abbrev pub plan_row : Row → ℕ → Value → ℕ → Putting
-plan_row (Row.Is k) id v room = plan_kind k id v room
-plan_row (Row.No c p) id v room = deny (Outcome.Given c p)
+plan_row (Ok k) id v room = plan_kind k id v room
+plan_row (Err why) id v room = deny (in_given (Err why))
 
 abbrev pub plan_edition : Edition → ℕ → Value → ℕ → Putting
-plan_edition (Edition.Of p) id v room = plan_row (row_of p id) id v room
-plan_edition Edition.Unknown id v room = deny (Outcome.No Fault.Edition 0)
+plan_edition (Some p) id v room = plan_row (row_of p id) id v room
+plan_edition None id v room = deny (Err (At Fault.Edition 0))
 
 unfoldable pub putting : ℕ → ℕ → Value → ℕ → Putting
 putting edition id v room = plan_edition (edition_of edition) id v room
 
 -- the answer, "the bytes written", and the buffer, "touching no byte past the data"
 unfoldable pub put_says : Putting → Outcome
-put_says (write bs) = Outcome.Done (length bs)
+put_says (write bs) = Ok (length bs)
 put_says (deny o) = o
 
 unfoldable pub put_leaves : List ℕ → Putting → List ℕ

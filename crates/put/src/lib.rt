@@ -7,14 +7,15 @@ ghost use Rattle.std.specs.Float.Ieee.{to_bits};
 ghost use Rattle.buffer.specs.Laid.{put_in};
 ghost use Rattle.date.specs.Double.{accepted};
 ghost use Rattle.element.specs.Data.{plain, sizes, one_zero, marker_data, simple_data, size_data, limit, date_data};
-ghost use Rattle.put.specs.Plan.{shape, is_of, from_span, if_room, plan_data, plan_kind, putting, put_says, put_leaves, Puts};
+ghost use Rattle.put.specs.Plan.{from_span, if_room, plan_data, plan_kind, putting, put_says, put_leaves, Puts};
 ghost use Rattle.put.specs.Laws.Put.{limit_of, span_data};
 
-use format::{Fault, Outcome};
-use kind::{Edition, Kind, Row};
+use format::{Fault, Outcome, Refusal};
+use kind::Kind;
 use value::{Span, Value};
 
 // 1, 0: two words of 4 bytes, written as one number.
+#[tactic(auto, using(crate::specs::Laws::Put::one_zero_put))]
 fn put_one_zero(buf: &mut [u8])
     ensures { buf.new ≡ put_in buf.old 0 (one_zero.write tt) }
 {
@@ -22,6 +23,7 @@ fn put_one_zero(buf: &mut [u8])
 }
 
 // One end of a date span: flag, 0 and the date.
+#[tactic(auto, using(crate::specs::Laws::Put::limit_put, date::proofs::Floats::float_no_nan))]
 fn put_limit(buf: &mut [u8], at: usize, counts: bool, days: f64)
     requires at_in_bounds { at + 16 ≤ length buf.old }
     requires days_value { accepted (to_bits binary64 days) ≡ true }
@@ -32,53 +34,58 @@ fn put_limit(buf: &mut [u8], at: usize, counts: bool, days: f64)
     buffer::put_number(buf, at + 8, 8, f64::to_bits(days));
 }
 
+#[tactic(auto, using(crate::specs::Laws::Put::room, crate::specs::Laws::Put::marker_put, crate::specs::Laws::Put::marker_long), unfolding(crate::specs::Plan::put_says, crate::specs::Plan::put_leaves))]
 fn put_marker(buf: &mut [u8]) -> Outcome
     ensures { Puts buf.old (if_room (length buf.old) (marker_data.write plain)) result buf.new }
 {
     if buf.len() < 12 {
-        return Outcome::No(Fault::Room, 0);
+        return Err(Refusal::At(Fault::Room, 0));
     }
     put_one_zero(buf);
     buffer::put_number(buf, 8, 4, 1);
-    Outcome::Done(12)
+    Ok(12)
 }
 
+#[tactic(auto, using(crate::specs::Laws::Put::room, crate::specs::Laws::Put::simple_put, crate::specs::Laws::Put::simple_long), unfolding(crate::specs::Plan::put_says, crate::specs::Plan::put_leaves))]
 fn put_simple(buf: &mut [u8]) -> Outcome
     ensures { Puts buf.old (if_room (length buf.old) (simple_data.write plain)) result buf.new }
 {
     if buf.len() < 8 {
-        return Outcome::No(Fault::Room, 0);
+        return Err(Refusal::At(Fault::Room, 0));
     }
     put_one_zero(buf);
-    Outcome::Done(8)
+    Ok(8)
 }
 
+#[tactic(auto, using(crate::specs::Laws::Put::room, crate::specs::Laws::Put::sizes_put, crate::specs::Laws::Put::sizes_long), unfolding(crate::specs::Plan::put_says, crate::specs::Plan::put_leaves))]
 fn put_sizes(buf: &mut [u8], min: u32, max: u32) -> Outcome
     ensures { Puts buf.old (if_room (length buf.old) (size_data.write (sizes min max))) result buf.new }
 {
     if buf.len() < 16 {
-        return Outcome::No(Fault::Room, 0);
+        return Err(Refusal::At(Fault::Room, 0));
     }
     put_one_zero(buf);
     buffer::put_number(buf, 8, 4, min as u64);
     buffer::put_number(buf, 12, 4, max as u64);
-    Outcome::Done(16)
+    Ok(16)
 }
 
+#[tactic(auto, using(crate::specs::Laws::Put::room, crate::specs::Laws::Put::span_put, crate::specs::Laws::Put::span_long), unfolding(crate::specs::Plan::put_says, crate::specs::Plan::put_leaves))]
 fn put_span(buf: &mut [u8], span: Span) -> Outcome
     requires { (accepted (to_bits binary64 span.after) ≡ true) × (accepted (to_bits binary64 span.before) ≡ true) }
     ensures { Puts buf.old (if_room (length buf.old) (date_data.write (span_data span))) result buf.new }
 {
     if buf.len() < 40 {
-        return Outcome::No(Fault::Room, 0);
+        return Err(Refusal::At(Fault::Room, 0));
     }
     put_one_zero(buf);
     put_limit(buf, 8, span.starts, span.after);
     put_limit(buf, 24, span.ends, span.before);
-    Outcome::Done(40)
+    Ok(40)
 }
 
 // 43 before 20.
+#[tactic(auto, unfolding(crate::specs::Plan::from_span, crate::specs::Plan::put_says, crate::specs::Plan::put_leaves, format::specs::Format::pick))]
 fn put_dates(buf: &mut [u8], span: Span) -> Outcome
     ensures { Puts buf.old (plan_data date_data (length buf.old) (from_span span)) result buf.new }
 {
@@ -86,64 +93,33 @@ fn put_dates(buf: &mut [u8], span: Span) -> Outcome
         if date::in_range(span.before) {
             return put_span(buf, span);
         }
-        return Outcome::Given(Fault::Date, 32);
+        return Err(Refusal::Given(Fault::Date, 32));
     }
-    Outcome::Given(Fault::Date, 16)
-}
-
-fn shape_of(kind: Kind) -> u64
-    ensures { result ≡ shape kind }
-{
-    match kind {
-        Kind::Marker => 1,
-        Kind::Simple(_) => 2,
-        Kind::WordList => 3,
-        Kind::Size(_) => 4,
-        Kind::Dates(_) => 5,
-    }
-}
-
-// Whether a value is of the kind; a simple one must have the identifier too.
-fn is_of(kind: Kind, identifier: u32, value: Value) -> bool
-    ensures { result ≡ is_of kind identifier value }
-{
-    let k = shape_of(kind);
-    match value {
-        Value::Marker => k == 1,
-        Value::Simple(n) => k == 2 && n == identifier,
-        Value::Words(_) => k == 3,
-        Value::Size(_, _) => k == 4,
-        Value::Dates(_) => k == 5,
-    }
+    Err(Refusal::Given(Fault::Date, 16))
 }
 
 // A value as the data of a kind: 40 first.
+#[tactic(auto, unfolding(crate::specs::Plan::plan_kind, crate::specs::Plan::is_of, crate::specs::Plan::shape, crate::specs::Plan::put_says, crate::specs::Plan::put_leaves, element::specs::Data::data_of, format::specs::Format::pick))]
 fn put_as(kind: Kind, identifier: u32, value: Value, buf: &mut [u8]) -> Outcome
     ensures { Puts buf.old (plan_kind kind identifier value (length buf.old)) result buf.new }
 {
-    if !is_of(kind, identifier, value) {
-        return Outcome::Given(Fault::Field, 0);
-    }
-    match value {
-        Value::Marker => put_marker(buf),
-        Value::Simple(_) => put_simple(buf),
-        Value::Size(min, max) => put_sizes(buf, min, max),
-        Value::Dates(span) => put_dates(buf, span),
-        Value::Words(_) => Outcome::Given(Fault::Field, 0),
+    match (kind, value) {
+        (Kind::Marker, Value::Marker) => put_marker(buf),
+        (Kind::Simple(_), Value::Simple(n)) if n == identifier => put_simple(buf),
+        (Kind::Size(_), Value::Size(min, max)) => put_sizes(buf, min, max),
+        (Kind::Dates(_), Value::Dates(span)) => put_dates(buf, span),
+        _ => Err(Refusal::Given(Fault::Field, 0)),
     }
 }
 
 // A value as the data of an identifier in an edition, written at the start of a buffer.
+#[tactic(auto, unfolding(crate::specs::Plan::putting, crate::specs::Plan::put_says, crate::specs::Plan::put_leaves))]
 pub fn put_value(edition: u64, identifier: u32, value: Value, buf: &mut [u8]) -> Outcome
     ensures { (result ≡ put_says (putting edition identifier value (length buf.old))) × (buf.new ≡ put_leaves buf.old (putting edition identifier value (length buf.old))) }
 {
-    let e = kind::edition_of(edition);
-    let Edition::Of(product) = e else {
-        return Outcome::No(Fault::Edition, 0);
+    let Some(product) = kind::edition_of(edition) else {
+        return Err(Refusal::At(Fault::Edition, 0));
     };
-    let row = row::row_for(product, identifier as u64);
-    let Row::Is(kind) = row else {
-        return format::in_given(kind::kind_says(row));
-    };
+    let kind = format::in_given(row::row_for(product, identifier as u64))?;
     put_as(kind, identifier, value, buf)
 }

@@ -11,6 +11,7 @@ use format::Outcome;
 use value::{Span, Value};
 
 // A float that is refused as a date where the bits are no date's: those of a not-a-number are those of no float here.
+#[tactic(auto, using(crate::specs::Laws::Table::stands_for, crate::specs::Laws::Table::stands_off, date::proofs::Floats::date_no_nan), unfolding(date::specs::Double::day))]
 fn float_of(bits: u64) -> f64
     ensures { Stands bits result }
 {
@@ -20,6 +21,7 @@ fn float_of(bits: u64) -> f64
     2958466.0
 }
 
+#[tactic(auto, unfolding(crate::specs::Table::by_simple, format::specs::Format::pick))]
 fn simple_from(id: u64) -> Value
     ensures { result ≡ by_simple id }
 {
@@ -29,6 +31,7 @@ fn simple_from(id: u64) -> Value
     Value::Simple(id as u32)
 }
 
+#[tactic(auto, unfolding(crate::specs::Table::by_size, format::specs::Format::pick))]
 fn size_from(minimum: u64, maximum: u64) -> Value
     ensures { result ≡ by_size minimum maximum }
 {
@@ -41,6 +44,7 @@ fn size_from(minimum: u64, maximum: u64) -> Value
     Value::Size(minimum as u32, maximum as u32)
 }
 
+#[tactic(auto, using(crate::specs::Laws::Table::dates_are, crate::specs::Laws::Table::dates_none, crate::specs::Laws::Table::dates_none_2))]
 fn dates_from(starts: u64, ends: u64, after: u64, before: u64) -> Value
     ensures { Alike result (by_dates starts ends after before) }
 {
@@ -61,6 +65,7 @@ fn dates_from(starts: u64, ends: u64, after: u64, before: u64) -> Value
 }
 
 // The value that a table says, or one that is refused as it.
+#[tactic(auto, using(crate::specs::Laws::Table::cases))]
 fn value_from(table: &[u64]) -> Value
     ensures { Alike result (value_from table.now) }
 {
@@ -77,6 +82,7 @@ fn value_from(table: &[u64]) -> Value
 }
 
 // The value that a table says as the data of an identifier in an edition, written at the start of a buffer.
+#[tactic(auto, using(crate::specs::Laws::Table::putting_alike))]
 pub fn put_value(edition: u64, identifier: u32, table: &[u64], buf: &mut [u8]) -> Outcome
     ensures { (result ≡ put_says (putting edition identifier (value_from table.now) (length buf.old))) × (buf.new ≡ put_leaves buf.old (putting edition identifier (value_from table.now) (length buf.old))) }
 {

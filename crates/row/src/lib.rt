@@ -5,10 +5,11 @@ ghost use Rattle.std.specs.Prelude.{◌≡◌};
 ghost use Rattle.kind.specs.Kinds.{row_in, kinds, row_of, kind_says, kind_of};
 ghost use Rattle.row.specs.Laws.Lines.{row_at, digit_of, line_of, lacks_at};
 
-use format::Fault;
-use kind::{Edition, Kind, Product, Role, Row};
+use format::{Fault, Refusal};
+use kind::{Kind, Product, Role, Row};
 
 // The rows of the sixteen identifiers from 16 n on, a digit of four bits each, the lowest first: by `row_at`.
+#[tactic(auto, using(crate::specs::Laws::Lines::lines, crate::specs::Laws::Lines::off_line), unfolding(crate::specs::Laws::Lines::Off, crate::specs::Laws::Lines::AllOff))]
 fn line_of(n: u64) -> u64
     ensures { result ≡ line_of n }
 {
@@ -29,24 +30,26 @@ fn line_of(n: u64) -> u64
     }
 }
 
+#[tactic(auto, unfolding(crate::specs::Laws::Lines::row_at, format::specs::Format::pick))]
 fn row_at(digit: u64) -> Row
     ensures { result ≡ row_at digit }
 {
     match digit {
-        1 => Row::Is(Kind::Marker),
-        2 => Row::Is(Kind::Simple(Role::Condition)),
-        3 => Row::Is(Kind::Simple(Role::Action)),
-        4 => Row::Is(Kind::Simple(Role::Exception)),
-        5 => Row::Is(Kind::WordList),
-        6 => Row::Is(Kind::Size(Role::Condition)),
-        7 => Row::Is(Kind::Size(Role::Exception)),
-        8 => Row::Is(Kind::Dates(Role::Condition)),
-        9 => Row::Is(Kind::Dates(Role::Exception)),
-        _ => Row::No(Fault::Unknown, 0),
+        1 => Ok(Kind::Marker),
+        2 => Ok(Kind::Simple(Role::Condition)),
+        3 => Ok(Kind::Simple(Role::Action)),
+        4 => Ok(Kind::Simple(Role::Exception)),
+        5 => Ok(Kind::WordList),
+        6 => Ok(Kind::Size(Role::Condition)),
+        7 => Ok(Kind::Size(Role::Exception)),
+        8 => Ok(Kind::Dates(Role::Condition)),
+        9 => Ok(Kind::Dates(Role::Exception)),
+        _ => Err(Refusal::At(Fault::Unknown, 0)),
     }
 }
 
 // The digit of an identifier; 0 where it is not among the 35.
+#[tactic(auto, using(crate::specs::Laws::Lines::digit_is))]
 fn digit_of(identifier: u64) -> u64
     ensures { result ≡ digit_of (row_in kinds identifier) }
 {
@@ -55,6 +58,7 @@ fn digit_of(identifier: u64) -> u64
 }
 
 // Whether a product lacks the row of a digit: Desk has the first three.
+#[tactic(auto, unfolding(crate::specs::Laws::Lines::lacks_at))]
 fn lacks(product: Product, digit: u64) -> bool
     ensures { result ≡ lacks_at product digit }
 {
@@ -65,23 +69,24 @@ fn lacks(product: Product, digit: u64) -> bool
 }
 
 // The row of an identifier in a product.
+#[tactic(auto, using(crate::specs::Laws::Lines::row_foreign, crate::specs::Laws::Lines::row_has))]
 pub fn row_for(product: Product, identifier: u64) -> Row
     ensures { result ≡ row_of product identifier }
 {
     let digit = digit_of(identifier);
     if lacks(product, digit) {
-        return Row::No(Fault::Foreign, 0);
+        return Err(Refusal::At(Fault::Foreign, 0));
     }
     row_at(digit)
 }
 
 // The row of an identifier in an edition.
+#[tactic(auto, using(kind::specs::Laws::Kinds::kind_none, kind::specs::Laws::Kinds::kind_in))]
 pub fn kind_of(edition: u64, identifier: u32) -> Row
     ensures { kind_says result ≡ kind_of edition identifier }
 {
-    let e = kind::edition_of(edition);
-    let Edition::Of(product) = e else {
-        return Row::No(Fault::Edition, 0);
+    let Some(product) = kind::edition_of(edition) else {
+        return Err(Refusal::At(Fault::Edition, 0));
     };
     row_for(product, identifier as u64)
 }

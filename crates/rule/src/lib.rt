@@ -33,11 +33,11 @@ fn class_at(s: &[u8], at: usize) -> Read
     ensures { result ≡ seen none class_head s.now at }
 {
     let z = field::fixed16_at(s, at, 0x0000, Fault::Field);
-    let Read::Got(p, _) = z else {
+    let Ok((p, _)) = z else {
         return z;
     };
     let n = field::fixed16_at(s, p, 0x000C, Fault::Field);
-    let Read::Got(q, _) = n else {
+    let Ok((q, _)) = n else {
         return n;
     };
     wire::fixed96_at(s, q, 0x656C_4565_6C75_5243, 0x746E_656D)
@@ -51,7 +51,7 @@ pub fn head_at(s: &[u8], at: usize, i: u64) -> Read
         return separator_at(s, at);
     }
     let f = field::fixed16_at(s, at, 0xFFFF, Fault::Field);
-    let Read::Got(p, _) = f else {
+    let Ok((p, _)) = f else {
         return f;
     };
     class_at(s, p)
@@ -62,7 +62,7 @@ fn lead_at(s: &[u8], at: usize, j: u64) -> Read
     ensures { result ≡ lead_at j s.now at }
 {
     if j == 0 {
-        return Read::Got(at, 0);
+        return Ok((at, 0));
     }
     separator_at(s, at)
 }
@@ -72,7 +72,7 @@ pub fn placed_at(s: &[u8], at: usize, product: Product, j: u64) -> Read
     ensures { result ≡ seen named (placed product j) s.now at }
 {
     let b = lead_at(s, at, j);
-    let Read::Got(p, _) = b else {
+    let Ok((p, _)) = b else {
         return b;
     };
     identified::element_at(s, p, product)

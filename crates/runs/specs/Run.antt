@@ -1,9 +1,9 @@
 -- A run of edits, of a buffer and of a deck: document 01, "Edits and building".
-use Rattle.std.specs.Prelude.{ℕ, max, ◌≡◌, List, [], ◌∷◌, length}
+use Rattle.std.specs.Prelude.{ℕ, max, ◌≡◌, List, [], ◌∷◌, length, Ok, Err, Some, None}
 use Rattle.format.specs.declared.Fault.TheVariants as Fault
-use Rattle.format.specs.declared.Outcome.{Outcome}
+use Rattle.kind.specs.Answers.{Edition}
+use Rattle.format.specs.Answers.{Outcome}
 use Rattle.format.specs.Format.{Answer, got, refused}
-use Rattle.kind.specs.declared.Edition.{Edition}
 use Rattle.kind.specs.Kinds.{edition_of}
 use Rattle.kind.specs.declared.Product.{Product}
 use Rattle.deck.specs.Deck.{Deck, read_as}
@@ -22,9 +22,8 @@ Call = ℕ × Edit
 
 -- the length to go on with: "On success the place answered is the new length", after a refusal the old one
 abbrev pub length_from : ℕ → Outcome → ℕ
-length_from n (Outcome.Done m) = m
-length_from n (Outcome.No c q) = n
-length_from n (Outcome.Given c q) = n
+length_from n (Ok m) = m
+length_from n (Err why) = n
 
 -- what the promise of every edit says of a buffer, and of a run of them
 abbrev pub step_by : Plan Deck → Buffer → Buffer
@@ -69,8 +68,8 @@ abbrev pub plan_in : Product → ℕ → Edit → Deck → Plan Deck
 plan_in p cap e k = in_room cap (in_version k.version (edited p e k.rules))
 
 abbrev pub plan_rules : Edition → ℕ → Edit → Deck → Plan Deck
-plan_rules (Edition.Of p) cap e k = if_accepted (read_as p (afresh k)) (plan_in p cap e k)
-plan_rules Edition.Unknown cap e k = refuse Fault.Edition 0
+plan_rules (Some p) cap e k = if_accepted (read_as p (afresh k)) (plan_in p cap e k)
+plan_rules None cap e k = refuse Fault.Edition 0
 
 unfoldable pub step_rules : ℕ → Call → Rules → Rules
 step_rules cap c l = taken (plan_rules (edition_of c.0) cap c.1 l.0) l

@@ -1,7 +1,7 @@
 // Bytes zeroed, and shifted down or up.
 #![tactic(auto)]
 
-ghost use Rattle.std.specs.Prelude.{◌≡◌, ◌+◌, ◌-◌, length};
+ghost use Rattle.std.specs.Prelude.{◌≡◌, length};
 ghost use Rattle.buffer.specs.Laid.{zeros};
 ghost use Rattle.buffer.specs.Laws.Laid.{down, up};
 
@@ -9,10 +9,8 @@ ghost use Rattle.buffer.specs.Laws.Laid.{down, up};
 pub fn zero(p: &mut [u8])
     ensures { p.new ≡ zeros (length p.old) }
 {
-    let mut i = 0;
-    while i < p.len() {
-        p[i] = 0;
-        i += 1;
+    for byte in p.iter_mut() {
+        *byte = 0;
     }
 }
 
@@ -20,10 +18,8 @@ pub fn zero(p: &mut [u8])
 pub fn shift_down(p: &mut [u8], by: usize)
     ensures { p.new ≡ down by p.old }
 {
-    let mut from = by;
-    while from < p.len() {
-        p[from - by] = p[from];
-        from += 1;
+    if by < p.len() {
+        p.copy_within(by.., 0);
     }
 }
 
@@ -31,9 +27,7 @@ pub fn shift_down(p: &mut [u8], by: usize)
 pub fn shift_up(p: &mut [u8], by: usize)
     ensures { p.new ≡ up by p.old }
 {
-    let mut to = p.len();
-    while by < to {
-        to -= 1;
-        p[to] = p[to - by];
+    if by < p.len() {
+        p.copy_within(..p.len() - by, by);
     }
 }

@@ -1,10 +1,7 @@
-// Where a rule stands, as an outcome; and a refusal as that of a place.
+// Where a rule stands in a deck.
 #![tactic(auto)]
 
-ghost use Rattle.std.specs.Prelude.{◌≡◌};
-ghost use Rattle.spot.specs.Laws.Spot.{spot_says, no_spot};
-
-use format::{Fault, Outcome};
+use format::Refusal;
 
 // What was found of a deck: its bytes, its version, the number of its rules, where the first of them starts, where the rule that was
 // asked for starts and where it ends; past the last rule both are the end of the deck.
@@ -18,36 +15,5 @@ pub struct Site {
     pub end: usize,
 }
 
-#[derive(Clone, Copy)]
-pub enum Spot {
-    Is(Site),
-    No(Fault, usize),
-}
-
-// What a place says.
-pub fn spot_says(f: Spot) -> Outcome
-    ensures { result ≡ spot_says f }
-{
-    match f {
-        Spot::Is(_) => Outcome::Done(0),
-        Spot::No(c, p) => Outcome::No(c, p),
-    }
-}
-
-// A refusal as that of a place.
-pub fn no_spot(o: Outcome) -> Spot
-    ensures { result ≡ no_spot o }
-{
-    match o {
-        Outcome::Done(_) => Spot::Is(Site {
-            bytes: 0,
-            version: 0,
-            rules: 0,
-            base: 0,
-            start: 0,
-            end: 0,
-        }),
-        Outcome::No(c, p) => Spot::No(c, p),
-        Outcome::Given(c, p) => Spot::No(c, p),
-    }
-}
+// What is answered of where a rule stands, or a refusal.
+pub type Spot = Result<Site, Refusal>;

@@ -1,6 +1,6 @@
 -- Starting an empty deck: document 01, "Edits and building".
 use Rattle.std.specs.Prelude.{ℕ, List, []}
-use Rattle.format.specs.declared.Outcome.{Outcome}
+use Rattle.format.specs.Answers.{Outcome}
 use Rattle.deck.specs.Written.{written}
 use Rattle.buffer.specs.Laid.{put_in}
 use Rattle.room.specs.Room.{room_for}

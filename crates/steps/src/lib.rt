@@ -5,14 +5,14 @@ ghost use Rattle.std.specs.Prelude.{◌≡◌};
 ghost use Rattle.steps.specs.Laws.Steps.{name_read, Follows, Reached};
 ghost use Rattle.steps.specs.Laws.Starts.{Starts};
 
-use format::{Fault, Read};
+use format::{Fault, Read, Refusal};
 
 // The name of the rule that starts at a place.
 pub fn name_end(s: &[u8], at: usize) -> Read
     ensures { result ≡ name_read s.now at }
 {
     let g = wire::u32_at(s, at);
-    let Read::Got(p, _) = g else {
+    let Ok((p, _)) = g else {
         return g;
     };
     text::string_end(s, p)
@@ -23,39 +23,29 @@ pub fn end_of(s: &[u8], at: usize) -> Read
     ensures { Follows s.now at result }
 {
     let t = name_end(s, at);
-    let Read::Got(e, _) = t else {
+    let Ok((e, _)) = t else {
         return t;
     };
     let f = wire::numbers_at(s, e, 6);
-    let Read::Got(_, _) = f else {
+    let Ok((_, _)) = f else {
         return f;
     };
     let z = wire::u32_at(s, e + 20);
-    let Read::Got(p, size) = z else {
+    let Ok((p, size)) = z else {
         return z;
     };
     let end = p + size as usize;
     if s.len() < end {
-        return Read::No(p, Fault::Size);
+        return Err(Refusal::At(Fault::Size, p));
     }
-    Read::Got(end, 0)
+    Ok((end, 0))
 }
 
 // Where rule k of a sound deck starts, whose rules start at a place: the rules before it are stepped over.
 fn start_of(s: &[u8], base: usize, k: u64) -> Read
     ensures { Reached s.now base k k result }
 {
-    let mut i = 0;
-    let mut p = base;
-    while i < k {
-        let r = end_of(s, p);
-        let Read::Got(q, _) = r else {
-            return r;
-        };
-        p = q;
-        i += 1;
-    }
-    Read::Got(p, 0)
+    each::each_at(|p, _| end_of(s, p), base, k)
 }
 
 // Where rule k of a sound deck of a version starts, whose rules start at a place; no deck has 257 rules.
@@ -66,11 +56,11 @@ pub fn rule_start(s: &[u8], version: u64, base: usize, k: u64) -> Read
         return start_of(s, base, k);
     }
     if 256 <= k {
-        return Read::No(7, Fault::Cut);
+        return Err(Refusal::At(Fault::Cut, 7));
     }
     let o = wire::u32_at(s, 7 + 4 * (k as usize));
-    let Read::Got(_, at) = o else {
+    let Ok((_, at)) = o else {
         return o;
     };
-    Read::Got(at as usize, 0)
+    Ok((at as usize, 0))
 }

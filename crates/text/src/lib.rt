@@ -8,7 +8,7 @@ ghost use Rattle.text.specs.Text.{length_of, string_length, string, word};
 ghost use Rattle.text.specs.Laws.Seen.{text_seen, in_form, end_read, refused_at};
 ghost use Rattle.text.specs.Laws.Written.{length_size};
 
-use format::{Fault, Read};
+use format::{Fault, Read, Refusal};
 
 // The forms of a String: its length is one byte, or FF and two.
 #[derive(Clone, Copy)]
@@ -17,21 +17,15 @@ pub enum Form {
     Long,
 }
 
-// The place past a String, its form and the number of its units; or the place of a fault, and the fault.
-#[derive(Clone, Copy)]
-pub enum StringRead {
-    Got(usize, Form, u64),
-    No(usize, Fault),
-}
+// What the reader of a String answers: the place past it, its form and the number of its units; or its refusal.
+pub type StringRead = Result<(usize, Form, u64), Refusal>;
 
 // What was read of a String, with nothing told of it but its end.
 pub fn end_of(r: StringRead) -> Read
     ensures { result ≡ end_read r }
 {
-    match r {
-        StringRead::Got(e, _, _) => Read::Got(e, 0),
-        StringRead::No(p, c) => Read::No(p, c),
-    }
+    let (e, _, _) = r?;
+    Ok((e, 0))
 }
 
 // How many bytes the length of a String takes.
@@ -48,10 +42,8 @@ pub fn length_size(form: Form) -> usize
 fn in_form(form: Form, r: Read) -> StringRead
     ensures { result ≡ in_form form r }
 {
-    match r {
-        Read::Got(p, n) => StringRead::Got(p, form, n),
-        Read::No(p, c) => StringRead::No(p, c),
-    }
+    let (p, n) = r?;
+    Ok((p, form, n))
 }
 
 // The two bytes of a long length.
@@ -59,11 +51,11 @@ fn long_at(s: &[u8], at: usize) -> Read
     ensures { result ≡ seen itself long_length s.now at }
 {
     let r = wire::u16_at(s, at);
-    let Read::Got(_, n) = r else {
+    let Ok((_, n)) = r else {
         return r;
     };
     if 255 < n {
-        return Read::No(at, Fault::Form);
+        return Err(Refusal::At(Fault::Form, at));
     }
     r
 }
@@ -73,11 +65,11 @@ fn length_at(s: &[u8], at: usize) -> StringRead
     ensures { result ≡ text_seen (λ l. l) string_length s.now at }
 {
     let b = wire::u8_at(s, at);
-    let Read::Got(p, n) = b else {
+    let Ok((p, n)) = b else {
         return in_form(Form::Short, b);
     };
     if n != 255 {
-        return StringRead::Got(p, Form::Short, n);
+        return Ok((p, Form::Short, n));
     }
     in_form(Form::Long, long_at(s, p))
 }
@@ -87,8 +79,8 @@ fn refused_at(r: StringRead, at: usize) -> StringRead
     ensures { result ≡ refused_at at r }
 {
     match r {
-        StringRead::Got(_, _, _) => r,
-        StringRead::No(_, c) => StringRead::No(at, c),
+        Err(Refusal::At(c, _)) => Err(Refusal::At(c, at)),
+        _ => r,
     }
 }
 
@@ -97,14 +89,14 @@ pub fn string_at(s: &[u8], at: usize) -> StringRead
     ensures { result ≡ text_seen length_of string s.now at }
 {
     let l = length_at(s, at);
-    let StringRead::Got(p, form, n) = l else {
+    let Ok((p, form, n)) = l else {
         return refused_at(l, at);
     };
     let end = p + 2 * (n as usize);
     if s.len() < end {
-        return StringRead::No(at, Fault::Cut);
+        return Err(Refusal::At(Fault::Cut, at));
     }
-    StringRead::Got(end, form, n)
+    Ok((end, form, n))
 }
 
 // A word, by its String.
@@ -112,7 +104,7 @@ pub fn word_at(s: &[u8], at: usize) -> StringRead
     ensures { result ≡ text_seen length_of word s.now at }
 {
     let z = field::fixed32_at(s, at, 0);
-    let Read::Got(p, _) = z else {
+    let Ok((p, _)) = z else {
         return in_form(Form::Short, z);
     };
     string_at(s, p)

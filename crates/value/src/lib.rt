@@ -5,10 +5,10 @@ ghost use Rattle.std.specs.Prelude.{◌≡◌, length};
 ghost use Rattle.element.specs.Data.{word_data, size_data, date_data, data_of, words_of, sizes_of, span_of};
 ghost use Rattle.value.specs.declared.Value.TheVariants.{Size, Dates, Words};
 ghost use Rattle.value.specs.Value.{floats, value_in, from_kind, value_of, value_says, value_answer};
-ghost use Rattle.value.specs.Laws.Places.{Holds, as_given, off_by};
+ghost use Rattle.value.specs.Laws.Places.{Holds};
 
-use format::{Fault, Read};
-use kind::{Edition, Kind, Row};
+use format::{Fault, Refusal};
+use kind::Kind;
 
 // A date span: whether the after date counts and whether the before date does, and the two dates.
 #[derive(Clone, Copy)]
@@ -28,70 +28,37 @@ pub enum Value {
     Words(u32),
 }
 
-// What lone data answer: a value, a fault of the call, or a fault in the data.
-#[derive(Clone, Copy)]
-pub enum Valued {
-    Is(Value),
-    No(Fault, usize),
-    Given(Fault, usize),
-}
-
-// The fault of a refused reading; of another, that bytes are left over behind it.
-fn given(r: Read) -> Valued
-    ensures { result ≡ as_given r }
-{
-    match r {
-        Read::Got(e, _) => Valued::Given(Fault::Over, e),
-        Read::No(p, c) => Valued::Given(c, p),
-    }
-}
+// What lone data answer: a value, or a refusal of the call or of the data.
+pub type Valued = Result<Value, Refusal>;
 
 // What follows reads sound data, whose fields stand at fixed places.
 
+#[tactic(auto, using(crate::specs::Laws::Places::number_fits, crate::specs::Laws::Places::words_are))]
 fn words_in(s: &[u8]) -> Valued
     ensures { Holds word_data s.now (λ d. Words (length (words_of d))) result }
 {
-    let r = wire::u32_at(s, 0);
-    let Read::Got(_, n) = r else {
-        return given(r);
-    };
-    Valued::Is(Value::Words(n as u32))
+    let (_, n) = wire::u32_at(s, 0)?;
+    Ok(Value::Words(n as u32))
 }
 
+#[tactic(auto, using(crate::specs::Laws::Places::number_fits, crate::specs::Laws::Places::sizes_are))]
 fn sizes_in(s: &[u8]) -> Valued
     ensures { Holds size_data s.now (λ d. Size (sizes_of d).0 (sizes_of d).1) result }
 {
-    let a = wire::u32_at(s, 8);
-    let Read::Got(_, minimum) = a else {
-        return given(a);
-    };
-    let b = wire::u32_at(s, 12);
-    let Read::Got(_, maximum) = b else {
-        return given(b);
-    };
-    Valued::Is(Value::Size(minimum as u32, maximum as u32))
+    let (_, minimum) = wire::u32_at(s, 8)?;
+    let (_, maximum) = wire::u32_at(s, 12)?;
+    Ok(Value::Size(minimum as u32, maximum as u32))
 }
 
+#[tactic(auto, using(crate::specs::Laws::Places::date_floats))]
 fn span_in(s: &[u8]) -> Valued
     ensures { Holds date_data s.now (λ d. Dates (floats (span_of d))) result }
 {
-    let f = field::flag_at(s, 8);
-    let Read::Got(_, starts) = f else {
-        return given(f);
-    };
-    let a = date::date_at(s, 16);
-    let Read::Got(_, after) = a else {
-        return given(a);
-    };
-    let g = field::flag_at(s, 24);
-    let Read::Got(_, ends) = g else {
-        return given(g);
-    };
-    let b = date::date_at(s, 32);
-    let Read::Got(_, before) = b else {
-        return given(b);
-    };
-    Valued::Is(Value::Dates(Span {
+    let (_, starts) = field::flag_at(s, 8)?;
+    let (_, after) = date::date_at(s, 16)?;
+    let (_, ends) = field::flag_at(s, 24)?;
+    let (_, before) = date::date_at(s, 32)?;
+    Ok(Value::Dates(Span {
         starts: starts == 1,
         ends: ends == 1,
         after: f64::from_bits(after),
@@ -99,12 +66,13 @@ fn span_in(s: &[u8]) -> Valued
     }))
 }
 
+#[tactic(auto, unfolding(format::specs::Laws::Back::Where))]
 fn value_in(kind: Kind, identifier: u32, s: &[u8]) -> Valued
     ensures { Holds (data_of kind) s.now (value_in kind identifier) result }
 {
     match kind {
-        Kind::Marker => Valued::Is(Value::Marker),
-        Kind::Simple(_) => Valued::Is(Value::Simple(identifier)),
+        Kind::Marker => Ok(Value::Marker),
+        Kind::Simple(_) => Ok(Value::Simple(identifier)),
         Kind::WordList => words_in(s),
         Kind::Size(_) => sizes_in(s),
         Kind::Dates(_) => span_in(s),
@@ -112,40 +80,25 @@ fn value_in(kind: Kind, identifier: u32, s: &[u8]) -> Valued
 }
 
 // Lone data of a kind: 45 last.
+#[tactic(auto, using(crate::specs::Laws::Places::value_is))]
 fn value_as(kind: Kind, identifier: u32, s: &[u8]) -> Valued
     ensures { result ≡ from_kind kind identifier s.now }
 {
-    let r = element::data_at(s, 0, kind);
-    let Read::Got(e, _) = r else {
-        return given(r);
-    };
+    let (e, _) = format::in_given(element::data_at(s, 0, kind))?;
     if e != s.len() {
-        return given(r);
+        return Err(Refusal::Given(Fault::Over, e));
     }
     value_in(kind, identifier, s)
 }
 
-// The fault of an identifier without a row.
-fn off(row: Row) -> Valued
-    ensures { result ≡ off_by row }
-{
-    match row {
-        Row::Is(_) => Valued::Given(Fault::Unknown, 0),
-        Row::No(c, p) => Valued::Given(c, p),
-    }
-}
-
 // Lone data of an identifier in an edition.
+#[tactic(auto, unfolding(crate::specs::Value::value_of))]
 pub fn value_of(edition: u64, identifier: u32, s: &[u8]) -> Valued
     ensures { (result ≡ value_of edition identifier s.now) × (value_says result ≡ value_answer edition identifier s.now) }
 {
-    let e = kind::edition_of(edition);
-    let Edition::Of(product) = e else {
-        return Valued::No(Fault::Edition, 0);
+    let Some(product) = kind::edition_of(edition) else {
+        return Err(Refusal::At(Fault::Edition, 0));
     };
-    let row = row::row_for(product, identifier as u64);
-    let Row::Is(kind) = row else {
-        return off(row);
-    };
+    let kind = format::in_given(row::row_for(product, identifier as u64))?;
     value_as(kind, identifier, s)
 }

@@ -5,7 +5,7 @@ ghost use Rattle.format.specs.Laws.Skip.{Skipped};
 ghost use Rattle.rule.specs.Rule.{placed};
 ghost use Rattle.walk.specs.Laws.Elements.{Counts, Elements, Identifies};
 
-use format::{Fault, Read};
+use format::{Fault, Read, Refusal};
 use kind::Product;
 
 // The number of elements of rule i, and where they start behind its head.
@@ -13,14 +13,14 @@ fn counted_at(s: &[u8], at: usize, i: u64) -> Read
     ensures { Counts s.now at i result }
 {
     let c = wire::u16_at(s, at);
-    let Read::Got(p, n) = c else {
+    let Ok((p, n)) = c else {
         return c;
     };
     let h = rule::head_at(s, p, i);
-    let Read::Got(q, _) = h else {
+    let Ok((q, _)) = h else {
         return h;
     };
-    Read::Got(q, n)
+    Ok((q, n))
 }
 
 // The same, from the start of rule i.
@@ -28,11 +28,11 @@ pub fn elements_of(s: &[u8], at: usize, i: u64) -> Read
     ensures { Elements s.now at i result }
 {
     let t = steps::name_end(s, at);
-    let Read::Got(e, _) = t else {
+    let Ok((e, _)) = t else {
         return t;
     };
     if wire::left(s, e) < 24 {
-        return Read::No(e, Fault::Cut);
+        return Err(Refusal::At(Fault::Cut, e));
     }
     counted_at(s, e + 24, i)
 }
@@ -41,17 +41,7 @@ pub fn elements_of(s: &[u8], at: usize, i: u64) -> Read
 pub fn element_start(s: &[u8], at: usize, product: Product, e: u64) -> Read
     ensures { Skipped (placed product) s.now at e e result }
 {
-    let mut j = 0;
-    let mut p = at;
-    while j < e {
-        let r = rule::placed_at(s, p, product, j);
-        let Read::Got(q, _) = r else {
-            return r;
-        };
-        p = q;
-        j += 1;
-    }
-    Read::Got(p, 0)
+    each::each_at(|p, j| rule::placed_at(s, p, product, j), at, e)
 }
 
 // The identifier of the element at place j of its rule, behind its 8001; it ends where its data start.
@@ -62,7 +52,7 @@ pub fn identifier_at(s: &[u8], at: usize, j: u64) -> Read
         return wire::u32_at(s, at);
     }
     if wire::left(s, at) < 2 {
-        return Read::No(at, Fault::Cut);
+        return Err(Refusal::At(Fault::Cut, at));
     }
     wire::u32_at(s, at + 2)
 }

@@ -6,24 +6,14 @@ ghost use Rattle.format.specs.Combinators.{each, sized};
 ghost use Rattle.format.specs.Laws.Seen.{seen, none};
 ghost use Rattle.rule.specs.Rule.{placed, body, from_unknown2, rule, elements_in};
 
-use format::{Fault, Read};
+use format::{Fault, Read, Refusal};
 use kind::Product;
 
 // n elements of a rule.
 fn elements_at(s: &[u8], at: usize, product: Product, n: u64) -> Read
     ensures { result ≡ seen none (each (placed product) 0 n) s.now at }
 {
-    let mut j = 0;
-    let mut p = at;
-    while j < n {
-        let r = rule::placed_at(s, p, product, j);
-        let Read::Got(q, _) = r else {
-            return r;
-        };
-        p = q;
-        j += 1;
-    }
-    Read::Got(p, 0)
+    each::each_at(|p, j| rule::placed_at(s, p, product, j), at, n)
 }
 
 // The number of elements of rule i, its head and its elements; the value is their number, and so up to the rule.
@@ -31,18 +21,18 @@ fn body_at(s: &[u8], at: usize, product: Product, i: u64) -> Read
     ensures { result ≡ seen length (body product i) s.now at }
 {
     let c = field::count16_at(s, at, 1, 64);
-    let Read::Got(p, n) = c else {
+    let Ok((p, n)) = c else {
         return c;
     };
     let h = rule::head_at(s, p, i);
-    let Read::Got(q, _) = h else {
+    let Ok((q, _)) = h else {
         return h;
     };
     let x = elements_at(s, q, product, n);
-    let Read::Got(e, _) = x else {
+    let Ok((e, _)) = x else {
         return x;
     };
-    Read::Got(e, n)
+    Ok((e, n))
 }
 
 // The Data Size of rule i and what it counts.
@@ -50,15 +40,15 @@ fn sized_at(s: &[u8], at: usize, product: Product, i: u64) -> Read
     ensures { result ≡ seen length (sized Fault.Size (body product i)) s.now at }
 {
     let d = wire::u32_at(s, at);
-    let Read::Got(p, size) = d else {
+    let Ok((p, size)) = d else {
         return d;
     };
     let rest = body_at(s, p, product, i);
-    let Read::Got(q, _) = rest else {
+    let Ok((q, _)) = rest else {
         return rest;
     };
     if p + size as usize != q {
-        return Read::No(at, Fault::Size);
+        return Err(Refusal::At(Fault::Size, at));
     }
     rest
 }
@@ -68,7 +58,7 @@ fn unknown2_at(s: &[u8], at: usize, product: Product, i: u64) -> Read
     ensures { result ≡ seen (λ f. length f.1.1.1.1) (from_unknown2 product i) s.now at }
 {
     let u = wire::numbers_at(s, at, 5);
-    let Read::Got(p, _) = u else {
+    let Ok((p, _)) = u else {
         return u;
     };
     sized_at(s, p - 4, product, i)
@@ -79,15 +69,15 @@ fn read_rule(rest: &[u8], product: Product, i: u64) -> Read
     ensures { result ≡ seen elements_in (rule product i) rest.now 0 }
 {
     let a = wire::u32_at(rest, 0);
-    let Read::Got(p, _) = a else {
+    let Ok((p, _)) = a else {
         return a;
     };
     let name = text::string_end(rest, p);
-    let Read::Got(q, _) = name else {
+    let Ok((q, _)) = name else {
         return name;
     };
     let on = field::flag_at(rest, q);
-    let Read::Got(e, _) = on else {
+    let Ok((e, _)) = on else {
         return on;
     };
     unknown2_at(rest, e, product, i)
@@ -98,12 +88,12 @@ pub fn rule_at(s: &[u8], at: usize, product: Product, i: u64) -> Read
     ensures { result ≡ seen elements_in (rule product i) s.now at }
 {
     if s.len() < at {
-        return Read::No(at, Fault::Cut);
+        return Err(Refusal::At(Fault::Cut, at));
     }
     let rest = &s[at..];
     let r = read_rule(rest, product, i);
     match r {
-        Read::Got(n, v) => Read::Got(at + n, v),
-        Read::No(p, c) => Read::No(at + p, c),
+        Ok((n, v)) => Ok((at + n, v)),
+        Err(why) => Err(format::further(why, at)),
     }
 }

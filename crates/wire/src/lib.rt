@@ -6,42 +6,18 @@ ghost use Rattle.format.specs.ReadWrite.{value};
 ghost use Rattle.format.specs.Combinators.{number, each, fixed};
 ghost use Rattle.format.specs.Laws.Seen.{seen, itself, none};
 
-use format::{Fault, Read};
+use format::{Fault, Read, Refusal};
 
-// The bytes at a place that has them, the lowest first.
-fn one(s: &[u8], at: usize) -> u64
-    requires { at + 1 ≤ length s.now }
-    ensures { (result ≡ value (take 1 (drop at s.now))) × (result < 2 ^ 8) }
+// The number that K bytes at a place that has them spell, the lowest first.
+fn value_at<const K: usize>(s: &[u8], at: usize) -> u64
+    requires { (K ≤ 8) × (at + K ≤ length s.now) }
+    ensures { result ≡ value (take K (drop at s.now)) }
 {
-    s[at] as u64
-}
-
-fn two(s: &[u8], at: usize) -> u64
-    requires { at + 2 ≤ length s.now }
-    ensures { (result ≡ value (take 2 (drop at s.now))) × (result < 2 ^ 16) }
-{
-    one(s, at) + 0x100 * one(s, at + 1)
-}
-
-fn three(s: &[u8], at: usize) -> u64
-    requires { at + 3 ≤ length s.now }
-    ensures { (result ≡ value (take 3 (drop at s.now))) × (result < 2 ^ 24) }
-{
-    two(s, at) + 0x1_0000 * one(s, at + 2)
-}
-
-fn four(s: &[u8], at: usize) -> u64
-    requires { at + 4 ≤ length s.now }
-    ensures { (result ≡ value (take 4 (drop at s.now))) × (result < 2 ^ 32) }
-{
-    two(s, at) + 0x1_0000 * two(s, at + 2)
-}
-
-fn eight(s: &[u8], at: usize) -> u64
-    requires { at + 8 ≤ length s.now }
-    ensures { (result ≡ value (take 8 (drop at s.now))) × (result < 2 ^ 64) }
-{
-    four(s, at) + 0x1_0000_0000 * four(s, at + 4)
+    let mut n = 0;
+    for i in (0..K).rev() {
+        n = 0x100 * n + s[at + i] as u64;
+    }
+    n
 }
 
 // How many bytes a slice has from a place on.
@@ -54,65 +30,46 @@ pub fn left(s: &[u8], at: usize) -> usize
     s.len() - at
 }
 
+#[tactic(auto, using(format::specs::Laws::Seen::number_is, format::specs::Laws::Seen::number_no))]
+fn number_at<const K: usize>(s: &[u8], at: usize) -> Read
+    requires { (0 < K) × (K ≤ 8) }
+    ensures { result ≡ seen itself (number K) s.now at }
+{
+    if s.len() < at || s.len() < at + K {
+        return Err(Refusal::At(Fault::Cut, at));
+    }
+    Ok((at + K, value_at::<K>(s, at)))
+}
+
 // A number of 1, 2, 3, 4 or 8 bytes.
 pub fn u8_at(s: &[u8], at: usize) -> Read
     ensures { result ≡ seen itself (number 1) s.now at }
 {
-    if s.len() < at {
-        return Read::No(at, Fault::Cut);
-    }
-    if s.len() < at + 1 {
-        return Read::No(at, Fault::Cut);
-    }
-    Read::Got(at + 1, one(s, at))
+    number_at::<1>(s, at)
 }
 
 pub fn u16_at(s: &[u8], at: usize) -> Read
     ensures { result ≡ seen itself (number 2) s.now at }
 {
-    if s.len() < at {
-        return Read::No(at, Fault::Cut);
-    }
-    if s.len() < at + 2 {
-        return Read::No(at, Fault::Cut);
-    }
-    Read::Got(at + 2, two(s, at))
+    number_at::<2>(s, at)
 }
 
 pub fn u24_at(s: &[u8], at: usize) -> Read
     ensures { result ≡ seen itself (number 3) s.now at }
 {
-    if s.len() < at {
-        return Read::No(at, Fault::Cut);
-    }
-    if s.len() < at + 3 {
-        return Read::No(at, Fault::Cut);
-    }
-    Read::Got(at + 3, three(s, at))
+    number_at::<3>(s, at)
 }
 
 pub fn u32_at(s: &[u8], at: usize) -> Read
     ensures { result ≡ seen itself (number 4) s.now at }
 {
-    if s.len() < at {
-        return Read::No(at, Fault::Cut);
-    }
-    if s.len() < at + 4 {
-        return Read::No(at, Fault::Cut);
-    }
-    Read::Got(at + 4, four(s, at))
+    number_at::<4>(s, at)
 }
 
 pub fn u64_at(s: &[u8], at: usize) -> Read
     ensures { result ≡ seen itself (number 8) s.now at }
 {
-    if s.len() < at {
-        return Read::No(at, Fault::Cut);
-    }
-    if s.len() < at + 8 {
-        return Read::No(at, Fault::Cut);
-    }
-    Read::Got(at + 8, eight(s, at))
+    number_at::<8>(s, at)
 }
 
 // n numbers of 4 bytes, of which nothing is told: a cut one is the first that is not there whole.
@@ -121,32 +78,30 @@ pub fn numbers_at(s: &[u8], at: usize, n: u16) -> Read
 {
     if s.len() < at {
         if n == 0 {
-            return Read::Got(at, 0);
+            return Ok((at, 0));
         }
-        return Read::No(at, Fault::Cut);
+        return Err(Refusal::At(Fault::Cut, at));
     }
     let end = at + 4 * (n as usize);
     if s.len() < end {
-        return Read::No(at + 4 * ((s.len() - at) / 4), Fault::Cut);
+        return Err(Refusal::At(Fault::Cut, at + 4 * ((s.len() - at) / 4)));
     }
-    Read::Got(end, 0)
+    Ok((end, 0))
 }
 
 // A constant of 12 bytes, the first eight and the last four.
+#[tactic(auto, using(format::specs::Laws::Seen::fixed_cut))]
 pub fn fixed96_at(s: &[u8], at: usize, first: u64, last: u64) -> Read
     ensures { result ≡ seen none (fixed 12 (first + 2 ^ 64 * last) Fault.Field) s.now at }
 {
-    if s.len() < at {
-        return Read::No(at, Fault::Cut);
+    if s.len() < at || s.len() < at + 12 {
+        return Err(Refusal::At(Fault::Cut, at));
     }
-    if s.len() < at + 12 {
-        return Read::No(at, Fault::Cut);
+    if value_at::<8>(s, at) != first {
+        return Err(Refusal::At(Fault::Field, at));
     }
-    if eight(s, at) != first {
-        return Read::No(at, Fault::Field);
+    if value_at::<4>(s, at + 8) != last {
+        return Err(Refusal::At(Fault::Field, at));
     }
-    if four(s, at + 8) != last {
-        return Read::No(at, Fault::Field);
-    }
-    Read::Got(at + 12, 0)
+    Ok((at + 12, 0))
 }

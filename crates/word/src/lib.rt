@@ -8,11 +8,12 @@ ghost use Rattle.plan.specs.Edit.{add_word, Edits};
 ghost use Rattle.plan.specs.Laws.Found.{MakesAs, Within};
 ghost use Rattle.word.specs.Laws.Word.{Lengthens};
 
-use format::{Fault, Outcome, Read};
-use kind::{Edition, Product};
-use spot::{Site, Spot};
+use format::{Fault, Outcome, Refusal};
+use kind::Product;
+use spot::Site;
 
 // To the list of count words, a number that stands at t, in the last of m rules, whose name ends at e.
+#[tactic(auto, using(parts::specs::Laws::Text::text_small, crate::specs::Laws::Word::lengthen_out, crate::specs::Laws::Word::lengthen_done))]
 fn lengthen(
     buf: &mut [u8],
     n: usize,
@@ -27,18 +28,15 @@ fn lengthen(
 {
     let size = parts::text_size(word);
     let new = n + 4 + size;
-    let o = room::room_for(m, new, buf.len());
-    let Outcome::Done(_) = o else {
-        return o;
-    };
+    let total = room::room_for(m, new, buf.len())?;
     if new < e + 24 {
-        return Outcome::No(Fault::Last, 0);
+        return Err(Refusal::At(Fault::Last, 0));
     }
     buffer::put_number(buf, n, 4, 0);
     parts::put_text(buf, n + 4, word);
     buffer::put_number(buf, e + 20, 4, (new - (e + 24)) as u64);
     buffer::put_number(buf, t, 4, count + 1);
-    o
+    Ok(total)
 }
 
 // To the last rule, the one that was found.
@@ -47,22 +45,16 @@ fn word_in(buf: &mut [u8], f: Site, product: Product, word: &[u8]) -> Outcome
     ensures { MakesAs product last_of f (add_word word.now) buf.old result buf.new }
 {
     if f.rules == 0 {
-        return Outcome::No(Fault::Last, 0);
+        return Err(Refusal::At(Fault::Last, 0));
     }
-    let r = steps::name_end(buf, f.start);
-    let Read::Got(e, _) = r else {
-        return format::end_says(r);
-    };
-    let l = list::list_at(buf, f.start, product, f.rules - 1);
-    let Read::Got(t, count) = l else {
-        return format::end_says(l);
-    };
+    let (e, _) = steps::name_end(buf, f.start)?;
+    let (t, count) = list::list_at(buf, f.start, product, f.rules - 1)?;
     if 64 <= count {
-        return Outcome::No(Fault::Full, 0);
+        return Err(Refusal::At(Fault::Full, 0));
     }
     let text = given::is_text(word);
     if !text {
-        return Outcome::No(Fault::Text, 0);
+        return Err(Refusal::At(Fault::Text, 0));
     }
     lengthen(buf, f.bytes, f.rules, e, t, count, word)
 }
@@ -71,13 +63,9 @@ fn word_in(buf: &mut [u8], f: Site, product: Product, word: &[u8]) -> Outcome
 pub fn add_word(edition: u64, buf: &mut [u8], n: usize, word: &[u8]) -> Outcome
     ensures { Edits edition n (add_word word.now) buf.old result buf.new }
 {
-    let o = kind::edition_of(edition);
-    let Edition::Of(product) = o else {
-        return Outcome::No(Fault::Edition, 0);
+    let Some(product) = kind::edition_of(edition) else {
+        return Err(Refusal::At(Fault::Edition, 0));
     };
-    let f = plan::find_last(edition, buf, n);
-    let Spot::Is(site) = f else {
-        return spot::spot_says(f);
-    };
+    let site = plan::find_last(edition, buf, n)?;
     word_in(buf, site, product, word)
 }

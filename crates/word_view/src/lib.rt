@@ -11,23 +11,16 @@ ghost use Rattle.word_view.specs.Word.{rule_word, word_view};
 ghost use Rattle.view.specs.Laws.View.{Inside};
 ghost use Rattle.view.specs.View.{PartOf, view_says};
 
-use format::{Fault, Outcome, Read};
-use kind::{Edition, Product, Row};
-use scan::Scan;
+use format::{Fault, Outcome, Refusal};
+use kind::Product;
 use view::View;
 
 // Word w of the element at place e of its rule.
 fn element_word(s: &[u8], at: usize, product: Product, e: u64, w: u64) -> View
     ensures { Carries product s.now at e (data_word w) result × Inside result (length s.now) }
 {
-    let r = walk::identifier_at(s, at, e);
-    let Read::Got(q, id) = r else {
-        return view::no_view(format::end_says(r));
-    };
-    let row = row::row_for(product, id);
-    let Row::Is(kind) = row else {
-        return view::no_view(kind::kind_says(row));
-    };
+    let (q, id) = walk::identifier_at(s, at, e)?;
+    let kind = row::row_for(product, id)?;
     data_word::data_word(s, q, kind, w)
 }
 
@@ -35,17 +28,11 @@ fn element_word(s: &[u8], at: usize, product: Product, e: u64, w: u64) -> View
 fn rule_word(s: &[u8], at: usize, product: Product, k: u64, e: u64, w: u64) -> View
     ensures { Where (rule product k) s.now at (rule_word k e w product at) result × Inside result (length s.now) }
 {
-    let c = walk::elements_of(s, at, k);
-    let Read::Got(p, n) = c else {
-        return view::no_view(format::end_says(c));
-    };
+    let (p, n) = walk::elements_of(s, at, k)?;
     if n <= e {
-        return View::No(Fault::Absent, 1);
+        return Err(Refusal::At(Fault::Absent, 1));
     }
-    let r = walk::element_start(s, p, product, e);
-    let Read::Got(q, _) = r else {
-        return view::no_view(format::end_says(r));
-    };
+    let (q, _) = walk::element_start(s, p, product, e)?;
     element_word(s, q, product, e, w)
 }
 
@@ -53,10 +40,7 @@ fn rule_word(s: &[u8], at: usize, product: Product, k: u64, e: u64, w: u64) -> V
 fn word_of(s: &[u8], product: Product, version: u64, base: usize, k: u64, e: u64, w: u64) -> View
     ensures { Finds product version s.now base k (rule_word k e w product) result × Inside result (length s.now) }
 {
-    let r = steps::rule_start(s, version, base, k);
-    let Read::Got(at, _) = r else {
-        return view::no_view(format::end_says(r));
-    };
+    let (at, _) = steps::rule_start(s, version, base, k)?;
     rule_word(s, at, product, k, e, w)
 }
 
@@ -64,16 +48,12 @@ fn word_of(s: &[u8], product: Product, version: u64, base: usize, k: u64, e: u64
 pub fn find_word(edition: u64, s: &[u8], k: u64, e: u64, w: u64) -> View
     ensures { (result ≡ word_view edition k e w s.now) × Inside result (length s.now) }
 {
-    let d = kind::edition_of(edition);
-    let Edition::Of(product) = d else {
-        return View::No(Fault::Edition, 0);
+    let Some(product) = kind::edition_of(edition) else {
+        return Err(Refusal::At(Fault::Edition, 0));
     };
-    let c = deck::pass(edition, s);
-    let Scan::Is(version, base, n, _) = c else {
-        return view::no_view(scan::scan_says(c));
-    };
+    let (version, base, n, _) = deck::pass(edition, s)?;
     if n <= k {
-        return View::No(Fault::Absent, 0);
+        return Err(Refusal::At(Fault::Absent, 0));
     }
     word_of(s, product, version, base, k, e, w)
 }

@@ -1,19 +1,21 @@
 -- An element added behind the last rule's others: 8001, its identifier and its data behind the deck; Data Size and the number of elements written over.
-use Rattle.std.specs.Prelude.{ℕ, ◌+◌, ◌-◌, ◌≤◌, ◌<◌, ◌≡◌}
+use Rattle.std.specs.Prelude.{ℕ, ◌+◌, ◌-◌, ◌≤◌, ◌<◌, ◌≡◌, Ok, Err}
 use Rattle.std.proofs.Common.{arith, ◌∙◌, take-append-drop, length-take-le, drop_at}
 use Rattle.std.proofs.Math.Nat.{zero-add}
 use Rattle.std.proofs.Math.Path.{refl, sym, ap}
 use mathlib.Core.List.{List, [], ◌∷◌, ◌++◌, append_assoc, append-nil}
 use Rattle.std.proofs.Math.ListN.{length, take, drop, length-append}
 use Rattle.format.specs.declared.Fault.{Fault}
-use Rattle.format.specs.declared.Outcome.{Outcome}
-use Rattle.format.specs.declared.Read.{Read}
-use Rattle.format.specs.Laws.Fault.{end_says, in_given}
-use Rattle.format.specs.Format.{refused, Bytes}
+use Rattle.format.specs.Answers.{Outcome, Read}
+use Rattle.format.specs.declared.Refusal.{Refusal}
+use Rattle.format.specs.declared.Refusal.TheVariants.{At}
+use Rattle.format.specs.Fault.{in_given}
+use Rattle.format.specs.Laws.Fault.{given_ok}
+use Rattle.format.specs.Format.{Bytes}
 use Rattle.format.specs.ReadWrite.{spelt, each_write}
 use Rattle.format.specs.Laws.ReadWrite.{length_spelt, length_before, each_append}
 use Rattle.format.specs.Combinators.{number}
-use Rattle.format.specs.Laws.Seen.{seen, itself, told, none, told_got, told_no}
+use Rattle.format.specs.Laws.Seen.{seen, itself, told, none, told_got}
 use Rattle.format.specs.Laws.Written.{Stands}
 use Rattle.format.specs.Laws.Back.{back_got, back_no}
 use Rattle.kind.specs.declared.Product.{Product}
@@ -38,7 +40,7 @@ use Rattle.plan.specs.Laws.Found.{MakesAs, Does}
 use Rattle.plan.specs.Laws.Last.{rules_none, among, as_many, on_none, on_last}
 use Rattle.room.specs.Room.{room_for}
 use Rattle.room.specs.Laws.Room.{roomy}
-use Rattle.plan.specs.Laws.Makes.{written_here, full, not_full, at_given_lem, no_given, made_no, made_given, made_out, made_in}
+use Rattle.plan.specs.Laws.Makes.{written_here, full, not_full, at_given_lem, no_given, given_no, made_no, made_given, made_out, made_in}
 
 -- 8001, the identifier, the data
 unfoldable pub later_bytes : ℕ → List ℕ → List ℕ
@@ -139,12 +141,12 @@ module _ (n m e c id : ℕ) (s d : List ℕ) where
 
   -- o is what 18, 19 and 20 were judged as
   module _ {o : Outcome} where
-    pub grow_out : o ≡ room_for m (n + 6 + length s) (length d) → ((u : ℕ) → o ≡ Outcome.Done u → ⊥) → Grows n m e c id s d o d
+    pub grow_out : {r : Outcome} {why : Refusal} → o ≡ room_for m (n + 6 + length s) (length d) → o ≡ Err why → r ≡ Err why → Grows n m e c id s d r d
     unfolding Grows
-    grow_out j i p v rs k x h z w f g cs b =
-        made_out v n d refl j i (f ∙ sym (as_many h _ z)) (sym (ap length (grown_written x h z w g cs b (among h)) ∙ grown_long h _ _ z w g))
+    grow_out j i er p v rs k x h z w f g cs b =
+        made_out v n d refl j i er (f ∙ sym (as_many h _ z)) (sym (ap length (grown_written x h z w g cs b (among h)) ∙ grown_long h _ _ z w g))
 
-    pub grow_done : {y₁ y₂ y₃ : List ℕ} {u : ℕ} → o ≡ room_for m (n + 6 + length s) (length d) → o ≡ Outcome.Done u → y₁ ≡ put_in d n (later_bytes id s) → y₂ ≡ put_in y₁ (e + 20) (spelt 4 (n + 6 + length s - (e + 24))) → y₃ ≡ put_in y₂ (e + 24) (spelt 2 (c + 1))
+    pub grow_done : {y₁ y₂ y₃ : List ℕ} {u : ℕ} → o ≡ room_for m (n + 6 + length s) (length d) → o ≡ Ok u → y₁ ≡ put_in d n (later_bytes id s) → y₂ ≡ put_in y₁ (e + 20) (spelt 4 (n + 6 + length s - (e + 24))) → y₃ ≡ put_in y₂ (e + 24) (spelt 2 (c + 1))
         → Grows n m e c id s d o y₃
     unfolding Grows
     grow_done j i e₁ e₂ e₃ p v rs k x h z w f g cs b =
@@ -174,34 +176,33 @@ with_more p id s rs k r = unless_full (length r.elements) (at_given (given p id 
 
 -- z is what the number of elements was read as, g what the element was judged as
 module _ (p : Product) (f : Site) (id : ℕ) (s d : List ℕ) where
-  pub element_none : f.rules ≡ 0 → MakesAs p last_of f (add_element id s) d (Outcome.No Fault.Last 0) d
+  pub element_none : f.rules ≡ 0 → MakesAs p last_of f (add_element id s) d (Err (At Fault.Last 0)) d
   unfolding edited
   element_none e = on_none p f d (add_element id s) (with_more p id s) (λ rs. refl) e
 
   module _ {e : ℕ} {z : Read} where
-    pub element_uncounted : (r : Outcome) (d' : List ℕ) {c : Fault} {q : ℕ} → (f.rules ≡ 0 → ⊥) → e ≡ name_end d f.start → z ≡ seen itself (number 2) d (e + 24) → z ≡ Read.No q c → MakesAs p last_of f (add_element id s) d r d'
+    pub element_uncounted : (r : Outcome) (d' : List ℕ) {why : Refusal} → (f.rules ≡ 0 → ⊥) → e ≡ name_end d f.start → z ≡ seen itself (number 2) d (e + 24) → z ≡ Err why → MakesAs p last_of f (add_element id s) d r d'
     unfolding edited
     element_uncounted r d' l g i k = on_last p f d (add_element id s) (with_more p id s) (λ rs. refl) r d' l g (λ v rs h y o e' a'. back_no itself (number 2) d (e + 24) (count_stands f.bytes d h o.within e').1 i k)
 
     module _ {c q : ℕ} where
-      pub element_full : (f.rules ≡ 0 → ⊥) → e ≡ name_end d f.start → z ≡ seen itself (number 2) d (e + 24) → z ≡ Read.Got q c → 64 ≤ c → MakesAs p last_of f (add_element id s) d (Outcome.No Fault.Full 0) d
+      pub element_full : (f.rules ≡ 0 → ⊥) → e ≡ name_end d f.start → z ≡ seen itself (number 2) d (e + 24) → z ≡ Ok (q, c) → 64 ≤ c → MakesAs p last_of f (add_element id s) d (Err (At Fault.Full 0)) d
       unfolding edited
       element_full l g i k t = on_last p f d (add_element id s) (with_more p id s) (λ rs. refl) _ _ l g (λ v rs h y o e' a'. let b = back_got itself (number 2) d (e + 24) (count_stands f.bytes d h o.within e').1 i k in made_no v f.bytes d (full _ _ (rw b.0 at t)))
 
       module _ {t : Read} where
-        pub element_given : {a r : Outcome} {x : Fault} {o : ℕ} → (f.rules ≡ 0 → ⊥) → e ≡ name_end d f.start → z ≡ seen itself (number 2) d (e + 24) → z ≡ Read.Got q c → c < 64 → t ≡ told 0 none (given p id s) → t ≡ Read.No o x → a ≡ end_says t → r ≡ in_given a → MakesAs p last_of f (add_element id s) d r d
+        pub element_given : {a : Read} {r : Outcome} {why : Refusal} → (f.rules ≡ 0 → ⊥) → e ≡ name_end d f.start → z ≡ seen itself (number 2) d (e + 24) → z ≡ Ok (q, c) → c < 64 → t ≡ told 0 none (given p id s) → a ≡ in_given t → a ≡ Err why → r ≡ Err why → MakesAs p last_of f (add_element id s) d r d
         unfolding edited
-        element_given {x = x} {o = o} l g i k j gt th ei er =
-            let u = told_no 0 none (given p id s) gt th in
-            let c' = er ∙ ap in_given (ei ∙ ap end_says th) in
+        element_given l g i k j gt ga ea er =
+            let u = given_no (given p id s) gt ga ea in
             on_last p f d (add_element id s) (with_more p id s) (λ rs. refl) _ _ l g (λ v rs h y o e' a'. let b = back_got itself (number 2) d (e + 24) (count_stands f.bytes d h o.within e').1 i k in
-            let v' = made_given v f.bytes d (not_full _ _ (rw b.0 at j) ∙ no_given _ (u.is ∙ ap (refused x) (sym (u.ends ∙ zero-add u.o)))) in
-            (c' ∙ v'.0, v'.1))
+            let v' = made_given v f.bytes d (not_full _ _ (rw b.0 at j) ∙ no_given _ u.is) in
+            (er ∙ ap Err u.ends ∙ v'.0, v'.1))
 
-        pub element_done : (r : Outcome) (d' : List ℕ) {v o : ℕ} → (f.rules ≡ 0 → ⊥) → e ≡ name_end d f.start → z ≡ seen itself (number 2) d (e + 24) → z ≡ Read.Got q c → c < 64 → Bytes s → t ≡ told 0 none (given p id s) → t ≡ Read.Got o v → Grows f.bytes f.rules e c id s d r d' → MakesAs p last_of f (add_element id s) d r d'
+        pub element_done : (r : Outcome) (d' : List ℕ) {a : Read} {v o : ℕ} → (f.rules ≡ 0 → ⊥) → e ≡ name_end d f.start → z ≡ seen itself (number 2) d (e + 24) → z ≡ Ok (q, c) → c < 64 → Bytes s → t ≡ told 0 none (given p id s) → a ≡ in_given t → a ≡ Ok (o, v) → Grows f.bytes f.rules e c id s d r d' → MakesAs p last_of f (add_element id s) d r d'
         unfolding Grows later_bytes edited
-        element_done r d' l g i k j bs gt th w' =
-            let u = told_got 0 none (given p id s) gt th in
+        element_done r d' l g i k j bs gt ga ea w' =
+            let u = told_got 0 none (given p id s) gt (given_ok t ga ea) in
             on_last p f d (add_element id s) (with_more p id s) (λ rs. refl) r d' l g (λ v rs h y o e' a'.
             let b = back_got itself (number 2) d (e + 24) (count_stands f.bytes d h o.within e').1 i k in
             let y' = later_written p Studio c id s u.x u.n (omega (arith, b.0, (rule_fits p (f.rules - 1) h.r h.fits).0)) bs u.is in

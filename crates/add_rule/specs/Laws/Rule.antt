@@ -1,21 +1,22 @@
 -- A rule added at the end: its bytes behind the deck, and the number of rules written over.
 use Prim.Native.Nat.{ℕ, ◌+◌, ◌^◌, ◌≤◌, ◌<◌, max}
 use native.Mathlib.Omega.{arith}
-use Rattle.std.proofs.Math.Nat.{zero-add}
-use Rattle.std.specs.Prelude.{◌≡◌, true, false}
+use Rattle.std.specs.Prelude.{◌≡◌, true, false, Ok, Err}
 use Rattle.std.proofs.Math.Path.{refl, ap}
 use Rattle.std.proofs.Common.{sym, ◌∙◌, length-take-le}
 use mathlib.Core.List.{List, [], ◌∷◌, ◌++◌, append_assoc, append-nil}
 use Rattle.std.proofs.Math.ListN.{length, take, length-append}
 use Rattle.std.proofs.Math.Seq.{take_all}
 use Rattle.format.specs.declared.Fault.{Fault}
-use Rattle.format.specs.declared.Outcome.{Outcome}
-use Rattle.format.specs.declared.Read.{Read}
-use Rattle.format.specs.Laws.Fault.{end_says, in_given}
-use Rattle.format.specs.Format.{refused, Bytes}
+use Rattle.format.specs.Answers.{Outcome, Read}
+use Rattle.format.specs.declared.Refusal.{Refusal}
+use Rattle.format.specs.declared.Refusal.TheVariants.{At}
+use Rattle.format.specs.Fault.{in_given}
+use Rattle.format.specs.Laws.Fault.{given_ok}
+use Rattle.format.specs.Format.{Bytes}
 use Rattle.format.specs.ReadWrite.{spelt, bit, each_write}
 use Rattle.format.specs.Laws.ReadWrite.{length_spelt, length_before}
-use Rattle.format.specs.Laws.Seen.{told, none, told_got, told_no}
+use Rattle.format.specs.Laws.Seen.{told, none, told_got}
 use Rattle.text.specs.Text.{string}
 use Rattle.kind.specs.declared.Product.{Product}
 use Rattle.kind.specs.declared.Product.TheVariants.{Studio}
@@ -43,7 +44,7 @@ use Rattle.plan.specs.Laws.Finish.{Finishes, made_finish}
 use Rattle.plan.specs.Laws.Last.{rules_none}
 use Rattle.room.specs.Room.{room_for}
 use Rattle.room.specs.Laws.Room.{roomy}
-use Rattle.plan.specs.Laws.Makes.{if_text_lem, no_text, at_given_lem, no_given, made_no, made_given, made_out}
+use Rattle.plan.specs.Laws.Makes.{if_text_lem, no_text, at_given_lem, no_given, given_no, made_no, made_given, made_out}
 use Rattle.parts.specs.Laws.Text.{text_bytes, text_size, text_size_lem, text_is}
 
 -- ---- the bytes of a new rule
@@ -197,16 +198,16 @@ module _ (g : Site) (name : List ℕ) (f : Fields) (id : ℕ) (s d : List ℕ) w
 
   -- size is what a String of the name takes, head the head of the rule, w an offset; q is what 18, 19 and 20 were judged as
   module _ {size head w : ℕ} {q : Outcome} where
-    pub extend_out : is_text name ≡ true → size ≡ text_size name → head ≡ length (head_bytes g.rules) → w ≡ wide g.version → q ≡ room_for (g.rules + 1) (g.bytes + 24 + size + 10 + head + length s + w) (length d) → ((u : ℕ) → q ≡ Outcome.Done u → ⊥) → Extends g name f id s d q d
+    pub extend_out : {r : Outcome} {why : Refusal} → is_text name ≡ true → size ≡ text_size name → head ≡ length (head_bytes g.rules) → w ≡ wide g.version → q ≡ room_for (g.rules + 1) (g.bytes + 24 + size + 10 + head + length s + w) (length d) → q ≡ Err why → r ≡ Err why → Extends g name f id s d r d
     unfolding Extends
-    extend_out it z hz ew j h p v rs x o fx b t =
+    extend_out it z hz ew j h er p v rs x o fx b t =
         let lt = text_size_lem name it in
         let al = added_long v rs x o b t in
         let y : w ≡ wide v = ew ∙ ap wide o.version in
         let e : g.bytes + 24 + size + 10 + head + length s + w ≡ length (written v (edits v rs x o)) = omega (arith, al, written_one_more v rs (edits v rs x o) (one_more v rs x o), lt, y, z, hz) in
-        made_out v g.bytes d refl j h (many v rs x o) e
+        made_out v g.bytes d refl j h er (many v rs x o) e
 
-    pub extend_done : {y₁ y₂ : List ℕ} (y₃ : List ℕ) (r : ℕ) {u : ℕ} → HandedFields f → is_text name ≡ true → size ≡ text_size name → head ≡ length (head_bytes g.rules) → w ≡ wide g.version → q ≡ room_for (g.rules + 1) (g.bytes + 24 + size + 10 + head + length s + w) (length d) → q ≡ Outcome.Done u
+    pub extend_done : {y₁ y₂ : List ℕ} (y₃ : List ℕ) (r : ℕ) {u : ℕ} → HandedFields f → is_text name ≡ true → size ≡ text_size name → head ≡ length (head_bytes g.rules) → w ≡ wide g.version → q ≡ room_for (g.rules + 1) (g.bytes + 24 + size + 10 + head + length s + w) (length d) → q ≡ Ok u
         → y₁ ≡ put_in d g.bytes (front_bytes name f) → y₂ ≡ put_in y₁ (g.bytes + 24 + size) (back_bytes g.rules id s) → Finishes g (g.rules + 1) (g.bytes + 24 + size + 10 + head + length s) y₂ r y₃ → Extends g name f id s d q y₃
     unfolding Extends
     extend_done y₃ r hf it z hz ew j h e₁ e₂ fin p v rs x o fx b t =
@@ -224,20 +225,20 @@ module _ (g : Site) (name : List ℕ) (f : Fields) (id : ℕ) (s d : List ℕ) w
 -- ---- what is judged before
 
 module _ (p : Product) (g : Site) (name : List ℕ) (f : Fields) (id : ℕ) (s d : List ℕ) where
-  pub rule_text : is_text name ≡ false → MakesAs p last_of g (add_rule name f id s) d (Outcome.No Fault.Text 0) d
+  pub rule_text : is_text name ≡ false → MakesAs p last_of g (add_rule name f id s) d (Err (At Fault.Text 0)) d
   unfolding MakesAs edited
   rule_text e v rs o = made_no v g.bytes d (no_text name _ e)
 
   module _ {t : Read} where
-    pub rule_given : {i r : Outcome} {c : Fault} {q : ℕ} → is_text name ≡ true → t ≡ told 0 none (given p id s) → t ≡ Read.No q c → i ≡ end_says t → r ≡ in_given i → MakesAs p last_of g (add_rule name f id s) d r d
+    pub rule_given : {i : Read} {r : Outcome} {why : Refusal} → is_text name ≡ true → t ≡ told 0 none (given p id s) → i ≡ in_given t → i ≡ Err why → r ≡ Err why → MakesAs p last_of g (add_rule name f id s) d r d
     unfolding MakesAs edited
-    rule_given {c = c} e a h ei er v rs o =
-        let u = told_no 0 none (given p id s) a h in
-        let y = made_given v g.bytes d (if_text_lem name _ e ∙ no_given _ (u.is ∙ ap (refused c) (sym (u.ends ∙ zero-add u.o)))) in
-        (er ∙ ap in_given (ei ∙ ap end_says h) ∙ y.0, y.1)
+    rule_given e a ei h er v rs o =
+        let u = given_no (given p id s) a ei h in
+        let y = made_given v g.bytes d (if_text_lem name _ e ∙ no_given _ u.is) in
+        (er ∙ ap Err u.ends ∙ y.0, y.1)
 
-    pub rule_done : (r : Outcome) (d' : List ℕ) {w l : ℕ} → id < 256 ^ 4 → Bytes name → Bytes s → is_text name ≡ true → t ≡ told 0 none (given p id s) → t ≡ Read.Got l w → Extends g name f id s d r d' → MakesAs p last_of g (add_rule name f id s) d r d'
+    pub rule_done : (r : Outcome) (d' : List ℕ) {i : Read} {w l : ℕ} → id < 256 ^ 4 → Bytes name → Bytes s → is_text name ≡ true → t ≡ told 0 none (given p id s) → i ≡ in_given t → i ≡ Ok (l, w) → Extends g name f id s d r d' → MakesAs p last_of g (add_rule name f id s) d r d'
     unfolding MakesAs edited Extends
-    rule_done r d' hi bn bs e a h x v rs o =
-        let u = told_got 0 none (given p id s) a h in
+    rule_done r d' hi bn bs e a ei h x v rs o =
+        let u = told_got 0 none (given p id s) a (given_ok t ei h) in
         rw (if_text_lem name _ e, at_given_lem _ u.is) (x p v rs u.x o (λ hf. new_fits p (text_of name) f u.x hf (text_fits name bn e) (given_fits p id s u.x u.n hi bs u.is)) (first_written p Studio id s u.x u.n bs u.is) (text_is name bn e))

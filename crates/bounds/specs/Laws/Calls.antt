@@ -1,15 +1,18 @@
 -- Laws of ../Calls.antt: each call gives the numbers that are listed for it, and no others.
-use Rattle.std.specs.Prelude.{ℕ, ◌+◌, ◌*◌, ◌≤◌, ◌≡◌, refl, Bool, true, false, leb, length, take, drop}
+use Rattle.std.specs.Prelude.{ℕ, ◌+◌, ◌*◌, ◌≤◌, ◌≡◌, refl, Bool, true, false, leb, length, take, drop, Result, Ok, Err, Some, None}
 use Rattle.std.proofs.Common.{arith}
 use mathlib.Core.List.{List, [], ◌∷◌}
 use Rattle.format.specs.declared.Fault.{Fault}
-use Rattle.format.specs.declared.Outcome.{Outcome}
+use Rattle.kind.specs.Answers.{Edition}
+use Rattle.format.specs.Answers.{Outcome}
+use Rattle.view.specs.Answers.{View}
+use Rattle.format.specs.declared.Refusal.{Refusal}
+use Rattle.format.specs.declared.Refusal.TheVariants.{At, Given}
 use Rattle.format.specs.Fault.{number_of}
 use Rattle.format.specs.Format.{Answer, got, refused, pick}
 use Rattle.format.specs.ReadWrite.{within}
 use Rattle.format.specs.Row.{total}
 use Rattle.kind.specs.declared.Product.{Product}
-use Rattle.kind.specs.declared.Edition.{Edition}
 use Rattle.kind.specs.Kinds.{edition_of}
 use Rattle.element.specs.Data.{words_of}
 use Rattle.element.specs.Element.{Element}
@@ -21,8 +24,6 @@ use Rattle.given.specs.Given.{given}
 use Rattle.plan.specs.Handed.{Handed}
 use Rattle.fill.specs.Rows.{rule_width, element_width}
 use Rattle.tables.specs.Tables.{in_tables, tabled, read_says}
-use Rattle.view.specs.declared.View.{View}
-use Rattle.fixed.specs.declared.Fielded.{Fielded}
 use Rattle.asked.specs.Asked.{asked, asked_by, asked_of, asked_first}
 use Rattle.view.specs.View.{view_says}
 use Rattle.name_view.specs.Name.{name_at, name_view}
@@ -36,7 +37,7 @@ use Rattle.bounds.specs.Laws.Places.{BytesOf, given_bytes}
 use Rattle.bounds.specs.Listed.{Numbers, allowed, Lists, numbers, exactly}
 use Rattle.bounds.specs.Laws.Listed.{allowed_first, allowed_later}
 use Rattle.bounds.specs.Laws.Faulty.{Faulty, deck_faulty, deck_allowed, edition_listed, faulty_listed, ElementListed, element_listed_lem}
-use Rattle.text.specs.Text.{word, Text}
+use Rattle.text.specs.Text.{Text}
 
 pub check_listed : (edition : ℕ) (s : List ℕ) → Lists check_numbers (answered (read_deck edition s))
 unfolding read_deck read_by
@@ -47,8 +48,8 @@ check_listed edition s = by (edition_of edition)
     read p (refused c q) e = faulty_listed [] c q (as_refused Faulty (deck_faulty p s) e)
 
     by : (o : Edition) → Lists check_numbers (answered (read_by o s))
-    by (Edition.Of p) = read p (read_as p s) refl
-    by Edition.Unknown = edition_listed []
+    by (Some p) = read p (read_as p s) refl
+    by None = edition_listed []
 
 -- and so does a pass over the deck
 pub pass_listed : (edition : ℕ) (s : List ℕ) → Lists check_numbers (scan_says (scanned (read_deck edition s)))
@@ -65,48 +66,48 @@ read_listed edition rules elements s = by (edition_of edition)
     read : (p : Product) (a : Answer Deck) → read_as p s ≡ a → Lists read_numbers (tabled rules elements a)
     read p (got k n) e = few (leb (rule_width * length k.rules) rules) (leb (element_width * total elements_in k.rules) elements)
       where
-        few : (x y : Bool) → Lists read_numbers (pick x (pick y (Outcome.Done (length k.rules)) (Outcome.No Fault.Table 1)) (Outcome.No Fault.Table 0))
+        few : (x y : Bool) → Lists read_numbers (pick x (pick y (Ok (length k.rules)) (Err (At Fault.Table 1))) (Err (At Fault.Table 0)))
         few true true = tt
         few true false = (refl, omega arith)
         few false y = (refl, omega arith)
     read p (refused c q) e = faulty_listed (numbers 14 14 1 ∷ []) c q (as_refused Faulty (deck_faulty p s) e)
 
     by : (o : Edition) → Lists read_numbers (read_says o rules elements s)
-    by (Edition.Of p) = read p (read_as p s) refl
-    by Edition.Unknown = edition_listed (numbers 14 14 1 ∷ [])
+    by (Some p) = read p (read_as p s) refl
+    by None = edition_listed (numbers 14 14 1 ∷ [])
 
-absent_listed : (last q : ℕ) → q ≤ last → q ≤ 2 → Lists (view_numbers last) (Outcome.No Fault.Absent q)
+absent_listed : (last q : ℕ) → q ≤ last → q ≤ 2 → Lists (view_numbers last) (Err (At Fault.Absent q))
 absent_listed last q f g = (allowed_later (numbers 1 13 60000) _ 16 q (allowed_later (numbers 29 29 60000) _ 16 q (allowed_first 16 16 last [] 16 q (omega arith) (omega arith) f)), g)
 
 -- Q says it of what is answered
-module _ {W : Type 0} (no : Fault → ℕ → W) (f : Product → ℕ → Rule → W) (last : ℕ) (Q : W → Type 0) (says_no : (c : Fault) (q : ℕ) → Lists (view_numbers last) (Outcome.No c q) → Q (no c q)) (there : (p : Product) (at : ℕ) (r : Rule) → Q (f p at r)) where
-  asked_listed : (edition k : ℕ) (s : List ℕ) → Q (asked no f edition k s)
+module _ {A : Type 0} (f : Product → ℕ → Rule → Result A Refusal) (last : ℕ) (Q : Result A Refusal → Type 0) (says_no : (why : Refusal) → Lists (view_numbers last) (Err why) → Q (Err why)) (there : (p : Product) (at : ℕ) (r : Rule) → Q (f p at r)) where
+  asked_listed : (edition k : ℕ) (s : List ℕ) → Q (asked f edition k s)
   unfolding asked
   asked_listed edition k s = by (edition_of edition)
     where
-      first : (p : Product) (at : ℕ) (rs : List Rule) → Q (asked_first no (f p) at rs)
-      first p at [] = says_no Fault.Absent 0 (absent_listed last 0 (omega arith) (omega arith))
+      first : (p : Product) (at : ℕ) (rs : List Rule) → Q (asked_first (f p) at rs)
+      first p at [] = says_no (At Fault.Absent 0) (absent_listed last 0 (omega arith) (omega arith))
       first p at (r ∷ rs) = there p at r
 
-      read : (p : Product) (a : Answer Deck) → read_as p s ≡ a → Q (asked_of no f k p a)
+      read : (p : Product) (a : Answer Deck) → read_as p s ≡ a → Q (asked_of f k p a)
       read p (got d n) e = first p _ (drop k d.rules)
-      read p (refused c q) e = says_no c q (faulty_listed (numbers 16 16 last ∷ []) c q (as_refused Faulty (deck_faulty p s) e))
+      read p (refused c q) e = says_no (At c q) (faulty_listed (numbers 16 16 last ∷ []) c q (as_refused Faulty (deck_faulty p s) e))
 
-      by : (o : Edition) → Q (asked_by no f k o s)
-      by (Edition.Of p) = read p (read_as p s) refl
-      by Edition.Unknown = says_no Fault.Edition 0 (edition_listed (numbers 16 16 last ∷ []))
+      by : (o : Edition) → Q (asked_by f k o s)
+      by (Some p) = read p (read_as p s) refl
+      by None = says_no (At Fault.Edition 0) (edition_listed (numbers 16 16 last ∷ []))
 
 abbrev Viewed : ℕ → View → Type 0
 Viewed last v = Lists (view_numbers last) (view_says v)
 
 pub name_listed : (edition k : ℕ) (s : List ℕ) → Lists (view_numbers 0) (view_says (name_view edition k s))
 unfolding name_view
-name_listed edition k s = asked_listed View.No (λ p. name_at) 0 (Viewed 0) (λ c q f. f) (λ p at r. tt) edition k s
+name_listed edition k s = asked_listed (λ p. name_at) 0 (Viewed 0) (λ why f. f) (λ p at r. tt) edition k s
 
 -- "no such rule / element / word, or no word list there": 0, 1 or 2
 pub word_listed : (edition k e w : ℕ) (s : List ℕ) → Lists (view_numbers 2) (view_says (word_view edition k e w s))
 unfolding word_view
-word_listed edition k e w s = asked_listed View.No (rule_word k e w) 2 (Viewed 2) (λ c q f. f) (λ p at r. element (drop e r.elements) _) edition k s
+word_listed edition k e w s = asked_listed (rule_word k e w) 2 (Viewed 2) (λ why f. f) (λ p at r. element (drop e r.elements) _) edition k s
   where
     worded : (ws : List Text) (at : ℕ) → Viewed 2 (word_at at ws)
     worded [] at = absent_listed 2 2 (omega arith) (omega arith)
@@ -118,15 +119,15 @@ word_listed edition k e w s = asked_listed View.No (rule_word k e w) 2 (Viewed 2
 
 pub fixed_listed : (edition k : ℕ) (s : List ℕ) → Lists (view_numbers 0) (fields_answer edition k s).0
 unfolding fixed_fields
-fixed_listed edition k s = asked_listed Fielded.No (λ p. fixed_at) 0 (λ v. Lists (view_numbers 0) (fields_say v).0) (λ c q f. f) (λ p at r. tt) edition k s
+fixed_listed edition k s = asked_listed (λ p. fixed_at) 0 (λ v. Lists (view_numbers 0) (fields_say v).0) (λ why f. f) (λ p at r. tt) edition k s
 
 -- ---- the edits
 
 abbrev OwnListed : Edit → Fault → ℕ → Type 0
-OwnListed e c q = Lists (edit_numbers e) (Outcome.No c q)
+OwnListed e c q = Lists (edit_numbers e) (Err (At c q))
 
 abbrev GivenListed : Edit → Fault → ℕ → Type 0
-GivenListed e c q = Lists (edit_numbers e) (Outcome.Given c q)
+GivenListed e c q = Lists (edit_numbers e) (Err (Given c q))
 
 judges_listed : (e : Edit) → Each (OwnListed e) (judges e)
 unfolding Each allowed within

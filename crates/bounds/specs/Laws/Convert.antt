@@ -1,16 +1,17 @@
 -- A conversion gives the numbers that are listed for it, and no others, at no place above 60,000; back to version 1 never 19.
-use Rattle.std.specs.Prelude.{ℕ, ◌≤◌, ◌<◌, ◌≡◌, refl, Bool, true, false, List, [], ◌∷◌, leb, eqb}
+use Rattle.std.specs.Prelude.{ℕ, ◌≤◌, ◌<◌, ◌≡◌, refl, Bool, true, false, List, [], ◌∷◌, leb, eqb, Ok, Err, Some, None}
 use Rattle.std.proofs.Common.{arith, ◌∙◌}
 use Rattle.std.proofs.Math.Path.{ap}
 use Rattle.std.proofs.Math.ListN.{length}
 use Rattle.format.specs.declared.Fault.{Fault}
-use Rattle.format.specs.declared.Outcome.{Outcome}
+use Rattle.kind.specs.Answers.{Edition}
+use Rattle.format.specs.Answers.{Outcome}
+use Rattle.format.specs.declared.Refusal.TheVariants.{At}
 use Rattle.format.specs.Fault.{place_of}
 use Rattle.format.specs.Format.{Answer, got, refused, pick, Bytes}
 use Rattle.format.specs.ReadWrite.{within}
 use Rattle.room.specs.Laws.Room.{room_judged}
 use Rattle.kind.specs.declared.Product.{Product}
-use Rattle.kind.specs.declared.Edition.{Edition}
 use Rattle.kind.specs.Kinds.{edition_of}
 use Rattle.rule.specs.Rule.{Rule}
 use Rattle.deck.specs.Deck.{Deck, version, read_as}
@@ -27,7 +28,7 @@ use Rattle.bounds.specs.Laws.Faulty.{Faulty, deck_faulty, edition_listed, faulty
 use Rattle.bounds.specs.Laws.Refused.{as_refused}
 
 -- P says it of each answer that there can be: not of 18, since a deck that was read has at most 256 rules
-module _ (P : Outcome → Type 0) (u : ℕ) (edition-no : P (Outcome.No Fault.Edition 0)) (faulty : (c : Fault) (q : ℕ) → Faulty c q → P (Outcome.No c q)) (done : (n : ℕ) → n ≤ 60000 → P (Outcome.Done n)) (large : (v : ℕ) (rs : List Rule) → length (written v rs) ≤ 60000 → 60000 < length (written u rs) → P (Outcome.No Fault.Large 0)) (full : P (Outcome.No Fault.Room 0)) where
+module _ (P : Outcome → Type 0) (u : ℕ) (edition-no : P (Err (At Fault.Edition 0))) (faulty : (c : Fault) (q : ℕ) → Faulty c q → P (Err (At c q))) (done : (n : ℕ) → n ≤ 60000 → P (Ok n)) (large : (v : ℕ) (rs : List Rule) → length (written v rs) ≤ 60000 → 60000 < length (written u rs) → P (Err (At Fault.Large 0))) (full : P (Err (At Fault.Room 0))) where
   other_judged : (edition v cap : ℕ) (s : List ℕ) → Bytes s → P (says (other_plan edition v u cap s))
   unfolding other_plan read_only says pick within
   other_judged edition v cap s b = by (edition_of edition)
@@ -40,7 +41,7 @@ module _ (P : Outcome → Type 0) (u : ℕ) (edition-no : P (Outcome.No Fault.Ed
           room_judged (length k.rules) (length (written u k.rules)) cap (λ o. P (says (if_done o (deck_of u k.rules)))) (λ r. done _ r.short) (λ l. absurd (omega arith)) (λ l. large k.version k.rules (omega (arith, ap length is, w.short)) l) (λ l. full)
       read p (refused c q) e = faulty c q (as_refused Faulty (deck_faulty p s) e)
 
-      version_no : P (Outcome.No Fault.Version 3)
+      version_no : P (Err (At Fault.Version 3))
       version_no = faulty Fault.Version 3 (refl, (omega arith, refl))
 
       same : (p : Product) (t : Bool) → P (says (in_other u cap (pick t (read_as p s) (refused Fault.Version 3))))
@@ -56,8 +57,8 @@ module _ (P : Outcome → Type 0) (u : ℕ) (edition-no : P (Outcome.No Fault.Ed
       long p false = faulty Fault.Long 60000 (refl, (omega arith, refl))
 
       by : (o : Edition) → P (says (plan_other o v u cap s))
-      by (Edition.Of p) = long p (leb (length s) 60000)
-      by Edition.Unknown = edition-no
+      by (Some p) = long p (leb (length s) 60000)
+      by None = edition-no
 
 convert_within : (edition v u cap : ℕ) (s : List ℕ) → Bytes s → Within convert_numbers 60000 (says (other_plan edition v u cap s))
 unfolding allowed within

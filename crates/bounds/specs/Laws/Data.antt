@@ -1,8 +1,7 @@
 -- How far the data of an element go: at most 33,092 bytes, those of a list of 64 words of 255 units.
-use Rattle.std.specs.Prelude.{ℕ, ◌≤◌, ◌≡◌, refl, Bool, true, false, List, [], ◌∷◌, eqb, length}
+use Rattle.std.specs.Prelude.{ℕ, ◌≤◌, ◌≡◌, refl, Bool, true, false, List, eqb, length, Ok, Err}
 use Rattle.std.proofs.Common.{arith, ◌∙◌}
 use Rattle.format.specs.declared.Fault.{Fault}
-use Rattle.format.specs.Fault.{place_of}
 use Rattle.format.specs.Format.{Answer, got, refused, end_of, whole, pick, Format, Bytes}
 use Rattle.format.specs.Laws.Format.{end_mapped}
 use Rattle.format.specs.Laws.ReadWrite.{within_is}
@@ -13,8 +12,10 @@ use Rattle.text.specs.Laws.Written.{length_most}
 use Rattle.date.specs.Date.{date}
 use Rattle.kind.specs.declared.Product.{Product}
 use Rattle.kind.specs.declared.Kind.{Kind}
-use Rattle.kind.specs.declared.Row.{Row}
-use Rattle.kind.specs.Kinds.{kinds, has, row_in, in_product, offered, row_of, kind_says}
+use Rattle.kind.specs.Answers.{Row}
+use Rattle.format.specs.declared.Refusal.{Refusal}
+use Rattle.format.specs.declared.Refusal.TheVariants.{At}
+use Rattle.kind.specs.Kinds.{kinds, row_in, offered, row_of}
 use Rattle.kind.specs.Laws.Kinds.{lacking, foreign}
 use Rattle.element.specs.Data.{one_zero, marker_data, simple_data, word_count, word_data, size_data, limit, date_data, data_of}
 use Rattle.given.specs.Given.{given, given_by, with_data}
@@ -61,40 +62,14 @@ bounded_data (Kind.Dates r) = wider _ 40 most (omega arith) (bounded_via _ _ _ _
 
 -- ---- a given element
 
-abbrev row_place : Row → ℕ
-row_place r = place_of (kind_says r).0
-
--- 41 and 42 "have place 0"
-row_place_lem : (rows : List (Kind × List ℕ)) (id : ℕ) → row_place (row_in rows id) ≡ 0
-unfolding row_in pick
-row_place_lem [] id = refl
-row_place_lem ((k, ids) ∷ rows) id = go (has ids id) (row_place_lem rows id)
-  where
-    go : (b : Bool) → row_place (row_in rows id) ≡ 0 → row_place (pick b (Row.Is k) (row_in rows id)) ≡ 0
-    go true h = refl
-    go false h = h
-
-offered_place : (p : Product) (r : Row) → row_place r ≡ 0 → row_place (offered p r) ≡ 0
-unfolding offered pick
-offered_place p (Row.No c q) h = h
-offered_place p (Row.Is k) h = go (in_product p k)
-  where
-    go : (b : Bool) → row_place (pick b (Row.Is k) (Row.No Fault.Foreign 0)) ≡ 0
-    go true = refl
-    go false = refl
-
-row_zero : (p : Product) (id : ℕ) → row_place (row_of p id) ≡ 0
-unfolding row_of
-row_zero p id = offered_place p (row_in kinds id) (row_place_lem kinds id)
-
 -- what holds of 41 and of 42 at 0 holds of every identifier that is refused
-pub row_refuses : (P : Fault → ℕ → Type 0) → P Fault.Unknown 0 → P Fault.Foreign 0 → (p : Product) (id : ℕ) {c : Fault} {q : ℕ} → row_of p id ≡ Row.No c q → P c q
+pub row_refuses : (P : Refusal → Type 0) → P (At Fault.Unknown 0) → P (At Fault.Foreign 0) → (p : Product) (id : ℕ) {why : Refusal} → row_of p id ≡ Err why → P why
 unfolding row_of offered
-row_refuses P u f p id {c} {q} e = let z : q ≡ 0 = rw e at (row_zero p id) in rw z (go (row_in kinds id) refl e)
+row_refuses P u f p id {why} e = go (row_in kinds id) refl e
   where
-    go : (r : Row) → row_in kinds id ≡ r → offered p r ≡ Row.No c q → P c 0
-    go (Row.Is k) h i = rw (foreign p k i) f
-    go (Row.No d o) h i = rw (lacking kinds id (h ∙ i)) u
+    go : (r : Row) → row_in kinds id ≡ r → offered p r ≡ Err why → P why
+    go (Ok k) h i = rw (foreign p k i) f
+    go (Err d) h i = rw (lacking kinds id (h ∙ i)) u
 
 pub whole_end : {A : Type 0} (n : ℕ) (a : Answer A) → end_of (whole n a) ≤ end_of a
 unfolding whole end_of pick
@@ -107,8 +82,8 @@ whole_end n (refused c q) = omega arith
 
 pub given_end : (p : Product) (id : ℕ) (s : List ℕ) → Bytes s → end_of (given p id s) ≤ most
 unfolding given Bounded end_of
-given_end p id s b = go (row_of p id) (row_zero p id)
+given_end p id s b = go (row_of p id) refl
   where
-    go : (r : Row) → row_place r ≡ 0 → end_of (given_by r id s) ≤ most
-    go (Row.Is k) h = omega (arith, end_mapped (with_data id) (whole (length s) ((data_of k).read s)), whole_end (length s) ((data_of k).read s), bounded_data k s b)
-    go (Row.No c q) h = omega arith
+    go : (r : Row) → row_of p id ≡ r → end_of (given_by r id s) ≤ most
+    go (Ok k) h = omega (arith, end_mapped (with_data id) (whole (length s) ((data_of k).read s)), whole_end (length s) ((data_of k).read s), bounded_data k s b)
+    go (Err why) h = row_refuses (λ w. end_of (given_by (Err w) id s) ≤ most) (omega arith) (omega arith) p id h

@@ -1,6 +1,6 @@
 -- Which faults a reading can be refused for, from those of its parts.
 use Prim.Native.Nat.{ℕ, zero, suc, ◌+◌, ◌*◌}
-use Rattle.std.specs.Prelude.{◌≡◌, Bool, List, ◌∷◌, leb, eqb, length, take, drop}
+use Rattle.std.specs.Prelude.{◌≡◌, Bool, List, ◌∷◌, leb, eqb, length, take, drop, Ok, Err}
 use Rattle.std.proofs.Math.Bool.{true, false}
 use Rattle.format.specs.declared.Fault.{Fault}
 use Rattle.format.specs.Format.{Answer, got, refused, shift, mapped, and_then, whole, pick, Format}
@@ -14,7 +14,7 @@ use Rattle.date.specs.Date.{date}
 use Rattle.kind.specs.declared.Product.{Product}
 use Rattle.kind.specs.declared.Role.TheVariants.{Condition}
 use Rattle.kind.specs.declared.Kind.{Kind}
-use Rattle.kind.specs.declared.Row.{Row}
+use Rattle.kind.specs.Answers.{Row}
 use Rattle.kind.specs.Kinds.{kinds, row_in}
 use Rattle.element.specs.Data.{one_zero, marker_data, simple_data, word_data, size_data, limit, date_data, data_of}
 use Rattle.element.specs.Element.{data_by, identifier, element}
@@ -203,8 +203,8 @@ module _ (P : Fault → Type 0) where
     -- ---- what a rule gives
     module _ (unknown : P Fault.Unknown) (foreign : P Fault.Foreign) (size : P Fault.Size) where
       gives_by : (r : Row) → Gives P (data_by r)
-      gives_by (Row.Is k) = gives_data k
-      gives_by (Row.No c q) = gives_data (Kind.Simple Condition)
+      gives_by (Ok k) = gives_data k
+      gives_by (Err why) = gives_data (Kind.Simple Condition)
 
       gives_element : (p : Product) → Gives P (element p)
       unfolding element identifier

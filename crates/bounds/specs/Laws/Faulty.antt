@@ -1,8 +1,9 @@
 -- What a deck and a given element are refused for: 2 to 13, a deck also 29, at places of document 01's table.
-use Rattle.std.specs.Prelude.{ℕ, ◌+◌, ◌≤◌, ◌≡◌, refl, Bool, true, false, ◌||◌, List, ◌∷◌, leb, eqb, length, take, drop}
-use Rattle.std.proofs.Common.{arith, ◌∙◌, le-leb, leb-true, eqb-true}
+use Rattle.std.specs.Prelude.{ℕ, ◌+◌, ◌≤◌, ◌≡◌, refl, Bool, true, false, ◌||◌, List, ◌∷◌, leb, eqb, length, take, drop, Ok, Err}
+use Rattle.std.proofs.Common.{arith, le-leb, leb-true, eqb-true}
 use Rattle.format.specs.declared.Fault.{Fault}
-use Rattle.format.specs.declared.Outcome.{Outcome}
+use Rattle.kind.specs.Answers.{Row}
+use Rattle.format.specs.declared.Refusal.TheVariants.{At, Given}
 use Rattle.format.specs.Fault.{number_of}
 use Rattle.format.specs.Format.{Answer, got, refused, end_of, shift, mapped, and_then, whole, pick, Format, Bytes}
 use Rattle.format.specs.ReadWrite.{pair_read, judge, judge_of, number_read, value, within}
@@ -10,7 +11,6 @@ use Rattle.format.specs.Laws.ReadWrite.{within_is}
 use Rattle.format.specs.Combinators.{pair, judged, via, seq, ◌then◌, number, fixed, bytes}
 use Rattle.kind.specs.declared.Product.{Product}
 use Rattle.kind.specs.declared.Kind.{Kind}
-use Rattle.kind.specs.declared.Row.{Row}
 use Rattle.kind.specs.Kinds.{row_of}
 use Rattle.element.specs.Data.{data_of}
 use Rattle.rule.specs.Rule.{Rule, rule}
@@ -20,7 +20,7 @@ use Rattle.given.specs.Given.{given, given_by, with_data}
 use Rattle.bounds.specs.Calls.{most, element_numbers, deck_numbers}
 use Rattle.bounds.specs.Laws.Data.{row_refuses, given_end, whole_end}
 use Rattle.bounds.specs.Laws.Faults.{For, Gives, for_refused, for_mapped, for_shift, for_whole, gives_counted, gives_indexed, gives_count, gives_data, gives_rule}
-use Rattle.bounds.specs.Laws.Refused.{RefusedAs, refused_as}
+use Rattle.bounds.specs.Laws.Refused.{RefusedAs, refused_as, as_refused}
 use Rattle.bounds.specs.Listed.{Listed, Numbers, allowed, Lists, numbers}
 use Rattle.bounds.specs.Laws.Listed.{allowed_first, allowed_later}
 
@@ -130,14 +130,14 @@ deck_faulty p s = long (leb (length s) 60000) refl
 
 -- a call that begins with a deck gives 1 to 13 and 29, and then its own
 module _ (rows : List Numbers) where
-  pub edition_listed : Lists (deck_numbers rows) (Outcome.No Fault.Edition 0)
+  pub edition_listed : Lists (deck_numbers rows) (Err (At Fault.Edition 0))
   edition_listed = (allowed_first 1 13 60000 _ 1 0 (omega arith) (omega arith) (omega arith), refl)
 
-  pub faulty_listed : (c : Fault) (q : ℕ) → Faulty c q → Lists (deck_numbers rows) (Outcome.No c q)
+  pub faulty_listed : (c : Fault) (q : ℕ) → Faulty c q → Lists (deck_numbers rows) (Err (At c q))
   faulty_listed c q f = (deck_allowed 1 0 rows (number_of c) (number_of c) q (omega arith) (omega arith) f.0 f.1.0, f.1.1)
 
 abbrev pub ElementListed : Fault → ℕ → Type 0
-ElementListed c q = Lists element_numbers (Outcome.Given c q)
+ElementListed c q = Lists element_numbers (Err (Given c q))
 
 abbrev Near : Fault → Type 0
 Near c = (q : ℕ) → q ≤ most → ElementListed c q
@@ -147,11 +147,11 @@ unfolding allowed within
 data_listed k = gives_data Near (λ q h. (rw (le-leb q most h), omega arith)) (λ q h. (rw (le-leb q most h), omega arith)) (λ q h. (rw (le-leb q most h), omega arith)) (λ q h. (rw (le-leb q most h), omega arith)) (λ q h. (rw (le-leb q most h), omega arith)) k
 
 pub element_listed_lem : (p : Product) (id : ℕ) (s : List ℕ) → Bytes s → RefusedAs ElementListed (given p id s)
-unfolding given Gives allowed within end_of
+unfolding given Gives RefusedAs allowed within end_of
 element_listed_lem p id s b = refused_as ElementListed (given p id s) (λ c q e. go c q e (row_of p id) refl e)
   where
     go : (c : Fault) (q : ℕ) → given p id s ≡ refused c q → (r : Row) → row_of p id ≡ r → given_by r id s ≡ refused c q → ElementListed c q
-    go c q e (Row.Is k) h z =
+    go c q e (Ok k) h z =
         let n : Near c = for_refused Near (for_mapped Near (with_data id) (whole (length s) ((data_of k).read s)) (for_whole Near (length s) ((data_of k).read s) (λ q h. (rw (le-leb q most h), omega arith)) (data_listed k s))) z in
         n q (rw e at (given_end p id s b))
-    go c q e (Row.No d o) h z = row_refuses ElementListed (refl, omega arith) (refl, omega arith) p id (h ∙ (let w : Row.No d o ≡ Row.No c q = cc in w))
+    go c q e (Err why) h z = as_refused ElementListed (row_refuses (λ w. RefusedAs ElementListed (given_by (Err w) id s)) (refl, omega arith) (refl, omega arith) p id h) z

@@ -1,8 +1,9 @@
 -- Laws of ../Listed.antt: a number among the first rows, or among later ones.
-use Rattle.std.specs.Prelude.{ℕ, ◌≤◌, ◌≡◌, refl, Bool, true, false, ◌&&◌, ◌||◌, List, ◌∷◌, leb, eqb}
+use Rattle.std.specs.Prelude.{ℕ, ◌≤◌, ◌≡◌, refl, Bool, true, false, ◌&&◌, ◌||◌, List, ◌∷◌, leb, eqb, Ok, Err}
 use Rattle.std.proofs.Common.{arith, le-leb}
 use Rattle.format.specs.declared.Fault.{Fault}
-use Rattle.format.specs.declared.Outcome.{Outcome}
+use Rattle.format.specs.Answers.{Outcome}
+use Rattle.format.specs.declared.Refusal.TheVariants.{At, Given}
 use Rattle.format.specs.Fault.{place_of}
 use Rattle.format.specs.ReadWrite.{within}
 use Rattle.format.specs.Laws.ReadWrite.{within_fits}
@@ -27,14 +28,12 @@ allowed_later row rows n q e = by row
 -- ---- an answer, accepted ones too: at a place up to the last, or refused by one of the rows
 
 abbrev pub Within : List Numbers → ℕ → Outcome → Type 0
-Within rows last (Outcome.Done n) = n ≤ last
-Within rows last (Outcome.No c q) = Lists rows (Outcome.No c q)
-Within rows last (Outcome.Given c q) = Lists rows (Outcome.Given c q)
+Within rows last (Ok n) = n ≤ last
+Within rows last (Err why) = Lists rows (Err why)
 
 pub within_lists : (rows : List Numbers) (last : ℕ) (o : Outcome) → Within rows last o → Lists rows o
-within_lists rows last (Outcome.Done n) f = tt
-within_lists rows last (Outcome.No c q) f = f
-within_lists rows last (Outcome.Given c q) f = f
+within_lists rows last (Ok n) f = tt
+within_lists rows last (Err why) f = f
 
 listed_small : (c : Fault) (q : ℕ) → Listed c q → q ≤ 60000
 listed_small Fault.Edition q h = omega arith
@@ -62,6 +61,6 @@ listed_small Fault.Last q h = omega arith
 listed_small Fault.Offset q h = h
 
 pub within_small : (rows : List Numbers) (last : ℕ) (o : Outcome) → Within rows last o → last ≤ 60000 → place_of o ≤ 60000
-within_small rows last (Outcome.Done n) f h = omega arith
-within_small rows last (Outcome.No c q) f h = listed_small c q f.1
-within_small rows last (Outcome.Given c q) f h = listed_small c q f.1
+within_small rows last (Ok n) f h = omega arith
+within_small rows last (Err (At c q)) f h = listed_small c q f.1
+within_small rows last (Err (Given c q)) f h = listed_small c q f.1

@@ -1,15 +1,16 @@
 -- No place that an edit answers is above 60,000, so that each answer is one number of 64 bits: code plus 256 times place.
-use Rattle.std.specs.Prelude.{ℕ, ◌*◌, ◌≤◌, ◌≡◌, refl, Bool, true, false, List, [], ◌∷◌, leb, length, take, drop}
+use Rattle.std.specs.Prelude.{ℕ, ◌*◌, ◌≤◌, ◌≡◌, refl, Bool, true, false, List, [], ◌∷◌, leb, length, take, drop, Ok, Err, Some, None}
 use Rattle.std.proofs.Common.{arith}
 use Rattle.format.specs.declared.Fault.{Fault}
-use Rattle.format.specs.declared.Outcome.{Outcome}
+use Rattle.kind.specs.Answers.{Edition}
+use Rattle.view.specs.Answers.{View}
+use Rattle.format.specs.declared.Refusal.TheVariants.{At}
 use Rattle.format.specs.Fault.{place_of}
 use Rattle.format.specs.Row.{total}
 use Rattle.format.specs.Format.{Answer, got, refused, end_of, pick, Bytes}
 use Rattle.format.specs.Laws.Format.{bytes_take}
 use Rattle.text.specs.Text.{Text}
 use Rattle.kind.specs.declared.Product.{Product}
-use Rattle.kind.specs.declared.Edition.{Edition}
 use Rattle.kind.specs.Kinds.{edition_of}
 use Rattle.element.specs.Data.{words_of}
 use Rattle.element.specs.Element.{Element}
@@ -22,8 +23,6 @@ use Rattle.plan.specs.Edit.{Edit, switch, rename, remove, insert, add_rule, add_
 use Rattle.plan.specs.Handed.{Handed}
 use Rattle.fill.specs.Rows.{rule_width, element_width}
 use Rattle.tables.specs.Tables.{in_tables, tabled, read_says}
-use Rattle.view.specs.declared.View.{View}
-use Rattle.view.specs.declared.View.TheVariants.{At, No}
 use Rattle.asked.specs.Asked.{asked, asked_by, asked_of, asked_first}
 use Rattle.view.specs.Laws.View.{Inside}
 use Rattle.view.specs.View.{view_says}
@@ -52,7 +51,7 @@ given_bytes (add_element id s) h = h.1
 given_bytes (add_word word) h = tt
 
 -- a reading in an edition
-read_small : (edition : ℕ) (p : Product) (s : List ℕ) → edition_of edition ≡ Edition.Of p → Bytes s → place_of (answered (read_as p s)) ≤ 60000
+read_small : (edition : ℕ) (p : Product) (s : List ℕ) → edition_of edition ≡ Some p → Bytes s → place_of (answered (read_as p s)) ≤ 60000
 unfolding read_deck read_by
 read_small edition p s e b = rw e at (place_small edition s b)
 
@@ -73,7 +72,7 @@ small_owns : (e : Edit) → Each Small (owns e)
 unfolding Each
 small_owns e = (omega arith, (omega arith, (omega arith, (omega arith, (omega arith, small_judges e)))))
 
-module _ (edition : ℕ) (p : Product) (ed : edition_of edition ≡ Edition.Of p) where
+module _ (edition : ℕ) (p : Product) (ed : edition_of edition ≡ Some p) where
   element_small : (id : ℕ) (s : List ℕ) → Bytes s → RefusedAs Small (given p id s)
   unfolding end_of
   element_small id s b = refused_as Small (given p id s) (λ c q e. let w : q ≤ most = rw e at (given_end p id s b) in omega arith)
@@ -99,45 +98,45 @@ plan_small edition n d e b h = go (planned edition n d e) (only_planned Small Sm
 
 -- what is told of a rule that is there
 abbrev Few : View → Type 0
-Few (At a n form) = Unit {0}
-Few (No c q) = q ≤ 2
+Few (Ok (a, n, form)) = Unit {0}
+Few (Err why) = place_of (Err why) ≤ 2
 
-view_small : (f : Product → ℕ → Rule → View) (edition k : ℕ) (s : List ℕ) → ((p : Product) (at : ℕ) (r : Rule) → Few (f p at r)) → Bytes s → Inside (asked No f edition k s) 60000 → place_of (view_says (asked No f edition k s)) ≤ 60000
+view_small : (f : Product → ℕ → Rule → View) (edition k : ℕ) (s : List ℕ) → ((p : Product) (at : ℕ) (r : Rule) → Few (f p at r)) → Bytes s → Inside (asked f edition k s) 60000 → place_of (view_says (asked f edition k s)) ≤ 60000
 unfolding asked
 view_small f edition k s g b = by (edition_of edition) refl
   where
     at_rule_lem : (v : View) → Few v → Inside v 60000 → place_of (view_says v) ≤ 60000
-    at_rule_lem (At a n form) w i = omega arith
-    at_rule_lem (No c q) w i = omega arith
+    at_rule_lem (Ok (a, n, form)) w i = omega arith
+    at_rule_lem (Err why) w i = omega arith
 
-    first : (p : Product) (at : ℕ) (rs : List Rule) → Inside (asked_first No (f p) at rs) 60000 → place_of (view_says (asked_first No (f p) at rs)) ≤ 60000
+    first : (p : Product) (at : ℕ) (rs : List Rule) → Inside (asked_first (f p) at rs) 60000 → place_of (view_says (asked_first (f p) at rs)) ≤ 60000
     first p at [] i = omega arith
     first p at (r ∷ rs) i = at_rule_lem (f p at r) (g p at r) i
 
-    read : (p : Product) (a : Answer Deck) → place_of (answered a) ≤ 60000 → Inside (asked_of No f k p a) 60000 → place_of (view_says (asked_of No f k p a)) ≤ 60000
+    read : (p : Product) (a : Answer Deck) → place_of (answered a) ≤ 60000 → Inside (asked_of f k p a) 60000 → place_of (view_says (asked_of f k p a)) ≤ 60000
     read p (got d m) w i = first p (start_of d.version d.rules k) (drop k d.rules) i
     read p (refused c q) w i = w
 
-    by : (o : Edition) → edition_of edition ≡ o → Inside (asked_by No f k o s) 60000 → place_of (view_says (asked_by No f k o s)) ≤ 60000
-    by (Edition.Of p) e i = read p (read_as p s) (read_small edition p s e b) i
-    by Edition.Unknown e i = omega arith
+    by : (o : Edition) → edition_of edition ≡ o → Inside (asked_by f k o s) 60000 → place_of (view_says (asked_by f k o s)) ≤ 60000
+    by (Some p) e i = read p (read_as p s) (read_small edition p s e b) i
+    by None e i = omega arith
 
 -- a view that was found lies in the first 60,000 bytes
-view_short : (f : Product → ℕ → Rule → View) (edition k : ℕ) (s : List ℕ) → Bytes s → Inside (asked No f edition k s) (length s) → Inside (asked No f edition k s) 60000
+view_short : (f : Product → ℕ → Rule → View) (edition k : ℕ) (s : List ℕ) → Bytes s → Inside (asked f edition k s) (length s) → Inside (asked f edition k s) 60000
 unfolding asked
 view_short f edition k s b = by (edition_of edition)
   where
     at_rule_lem : (v : View) → length s ≤ 60000 → Inside v (length s) → Inside v 60000
-    at_rule_lem (At a n form) l i = omega arith
-    at_rule_lem (No c q) l i = tt
+    at_rule_lem (Ok (a, n, form)) l i = omega arith
+    at_rule_lem (Err why) l i = tt
 
-    read : (p : Product) (a : Answer Deck) → read_as p s ≡ a → Inside (asked_of No f k p a) (length s) → Inside (asked_of No f k p a) 60000
-    read p (got d m) h i = at_rule_lem (asked_first No (f p) (start_of d.version d.rules k) (drop k d.rules)) (read_writes_back p s d m b h).short i
+    read : (p : Product) (a : Answer Deck) → read_as p s ≡ a → Inside (asked_of f k p a) (length s) → Inside (asked_of f k p a) 60000
+    read p (got d m) h i = at_rule_lem (asked_first (f p) (start_of d.version d.rules k) (drop k d.rules)) (read_writes_back p s d m b h).short i
     read p (refused c q) h i = tt
 
-    by : (o : Edition) → Inside (asked_by No f k o s) (length s) → Inside (asked_by No f k o s) 60000
-    by (Edition.Of p) i = read p (read_as p s) refl i
-    by Edition.Unknown i = tt
+    by : (o : Edition) → Inside (asked_by f k o s) (length s) → Inside (asked_by f k o s) 60000
+    by (Some p) i = read p (read_as p s) refl i
+    by None i = tt
 
 pub name_short : (edition k : ℕ) (s : List ℕ) {v : View} → Bytes s → v ≡ name_view edition k s → Inside v (length s) → Inside v 60000
 unfolding name_view
@@ -171,12 +170,12 @@ tables_small edition rules elements s b = by (edition_of edition) refl
     read : (a : Answer Deck) → place_of (answered a) ≤ 60000 → place_of (tabled rules elements a) ≤ 60000
     read (got k n) h = few (leb (rule_width * length k.rules) rules) (leb (element_width * total elements_in k.rules) elements)
       where
-        few : (x y : Bool) → place_of (pick x (pick y (Outcome.Done (length k.rules)) (Outcome.No Fault.Table 1)) (Outcome.No Fault.Table 0)) ≤ 60000
+        few : (x y : Bool) → place_of (pick x (pick y (Ok (length k.rules)) (Err (At Fault.Table 1))) (Err (At Fault.Table 0))) ≤ 60000
         few true true = h
         few true false = omega arith
         few false y = omega arith
     read (refused c q) h = h
 
     by : (o : Edition) → edition_of edition ≡ o → place_of (read_says o rules elements s) ≤ 60000
-    by (Edition.Of p) e = read (read_as p s) (read_small edition p s e b)
-    by Edition.Unknown e = omega arith
+    by (Some p) e = read (read_as p s) (read_small edition p s e b)
+    by None e = omega arith

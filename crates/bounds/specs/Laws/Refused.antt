@@ -1,5 +1,5 @@
 -- What an edit can be refused for, from what its parts can: N says which faults are its own, and at which places, G which are of what it is given.
-use Rattle.std.specs.Prelude.{ℕ, ◌≤◌, ◌≡◌, Bool, leb, length, take}
+use Rattle.std.specs.Prelude.{ℕ, ◌≤◌, ◌≡◌, Bool, leb, length, take, Some, None}
 use Rattle.std.proofs.Math.Path.{refl}
 use Rattle.std.proofs.Math.Bool.{true, false}
 use mathlib.Core.List.{List, [], ◌∷◌}
@@ -7,7 +7,7 @@ use Rattle.format.specs.declared.Fault.{Fault}
 use Rattle.format.specs.Format.{Answer, got, refused, pick}
 use Rattle.text.specs.Text.{Text}
 use Rattle.kind.specs.declared.Product.{Product}
-use Rattle.kind.specs.declared.Edition.{Edition}
+use Rattle.kind.specs.Answers.{Edition}
 use Rattle.kind.specs.Kinds.{edition_of}
 use Rattle.element.specs.Data.{plain, words, sizes, span}
 use Rattle.element.specs.Element.{Element}
@@ -119,7 +119,7 @@ module _ (N G : Fault → ℕ → Type 0) where
   only_room e o cap v (refuse c q) f = f
   only_room e o cap v (refuse_given c q) f = f
 
-  pub only_planned : (edition n : ℕ) (d : List ℕ) (e : Edit) → Each N (owns e) → ((p : Product) → edition_of edition ≡ Edition.Of p → RefusedAs N (read_as p (take n d)) × OfGift G p (given_to e)) → Only NotLarge N G (planned edition n d e)
+  pub only_planned : (edition n : ℕ) (d : List ℕ) (e : Edit) → Each N (owns e) → ((p : Product) → edition_of edition ≡ Some p → RefusedAs N (read_as p (take n d)) × OfGift G p (given_to e)) → Only NotLarge N G (planned edition n d e)
   unfolding planned pick RefusedAs Each
   only_planned edition n d e o w = by (edition_of edition) refl
     where
@@ -127,10 +127,10 @@ module _ (N G : Fault → ℕ → Type 0) where
       read p (got k m) f = only_room e o (length d) k.version (edited p e k.rules) (only_edited p e k.rules o.1.1.1.1.1 f.1)
       read p (refused c q) f = f.0
 
-      stated : (p : Product) (t : Bool) → edition_of edition ≡ Edition.Of p → Only NotLarge N G (pick t (plan p (length d) e (read_as p (take n d))) (refuse Fault.Stated 0))
+      stated : (p : Product) (t : Bool) → edition_of edition ≡ Some p → Only NotLarge N G (pick t (plan p (length d) e (read_as p (take n d))) (refuse Fault.Stated 0))
       stated p true f = read p (read_as p (take n d)) (w p f)
       stated p false f = o.1.0
 
       by : (x : Edition) → edition_of edition ≡ x → Only NotLarge N G (plan_by x n d e)
-      by (Edition.Of p) f = stated p (leb n (length d)) f
-      by Edition.Unknown f = o.0
+      by (Some p) f = stated p (leb n (length d)) f
+      by None f = o.0

@@ -1,11 +1,8 @@
-use Rattle.format.specs.ReadWrite.{bit}
-use Rattle.format.specs.Format.{pick}
+use Rattle.std.proofs.Common.{◌∙◌, ℕ, ap}
+use Rattle.format.specs.ReadWrite.{spelt}
+use Rattle.buffer.specs.Laid.{put_in}
+use Rattle.buffer.specs.Laws.Laid.{bit_from}
 use Rattle.buffer.proofs.put_flag.Goals as goal
 
-pub returns-then-yes : goal.returns-then-yes
-unfolding bit pick
-returns-then-yes c = rw c.if-yes.true c.put_number.ensures
-
-pub returns-else-yes : goal.returns-else-yes
-unfolding bit pick
-returns-else-yes c = rw c.if-yes.false c.put_number-else-yes.ensures
+pub returns : goal.returns
+returns c = c.put_number.ensures ∙ ap (λ (n : ℕ). put_in c.args.buf.now c.args.at (spelt 4 n)) (bit_from _ c.from.ensures)

@@ -1,13 +1,15 @@
 -- Laws of ../Laid.antt: what bytes put, moved and opened leave of the whole buffer.
-use Rattle.std.specs.Prelude.{ℕ, zero, suc, ◌+◌, ◌-◌, ◌≤◌, ◌<◌, max, ◌≡◌, refl, Bool, true, false, ◌&&◌, List, [], ◌∷◌, ◌++◌, leb, take, drop, set}
+use Rattle.std.specs.Prelude.{ℕ, zero, suc, ◌+◌, ◌-◌, ◌≤◌, max, ◌≡◌, refl, Bool, true, false, ◌&&◌, List, [], ◌++◌, leb, take, drop}
+use Rattle.std.specs.Int.{from_bool}
 use Rattle.std.proofs.Common.{add-zero, arith, sym, ap, ap₂, ◌∙◌, append_assoc, length-append, length-take, length-drop, take-append-drop, drop-drop, take_at, drop_at, length-take-le}
-use Rattle.std.proofs.Math.Nat.{sub-zero, zero-sub, suc-sub-suc}
+use Rattle.std.proofs.Math.Nat.{zero-add, sub-zero, zero-sub, suc-sub-suc}
 use Rattle.std.proofs.Math.ListN.{length}
 use Rattle.std.proofs.lemmas.List.{length-replicate, replicate-append-replicate}
 use Rattle.std.proofs.Math.Seq.{take-append_seam, drop-append_seam, drop-append-add}
 use borrow.Author.Tests.{le-leb, leb-true}
 use Rattle.format.specs.Laws.Format.{both}
 use Rattle.format.specs.Format.{pick}
+use Rattle.format.specs.ReadWrite.{bit}
 use Rattle.buffer.specs.Laid.{zeros, put, put_in, laid}
 
 -- moved by so many bytes, down or up; the places that nothing moves to stay
@@ -30,6 +32,12 @@ unfoldable pub opened : List ℕ → ℕ → ℕ → ℕ → ℕ → List ℕ
 opened d n a b len =
     pick (leb a b && leb b n && leb n (length d) && leb (n - (b - a) + len) (length d))
     (laid (take a d ++ (take len (drop a d) ++ drop b (take n d))) (max n (n - (b - a) + len)) d) d
+
+-- ---- a yes or no as the code makes a number of it
+pub bit_from : (b : Bool) {n : ℕ} → n ≡ from_bool b → n ≡ bit b
+unfolding bit pick
+bit_from true e = e
+bit_from false e = e
 
 -- ---- where there is room, and where there is not
 
@@ -67,23 +75,14 @@ module _ (d : List ℕ) where
 
 -- ---- bytes put one after the other
 
-put_cons : (y : ℕ) (zs : List ℕ) (n : ℕ) (bs : List ℕ) → put (y ∷ zs) (suc n) bs ≡ y ∷ put zs n bs
-unfolding put
-put_cons y zs n bs = let e : suc n + length bs ≡ suc (n + length bs) = omega arith in rw e
-
--- none, and one more
+-- none, and some at the start
 pub put_none : (xs : List ℕ) (at : ℕ) → put xs at [] ≡ xs
 unfolding put
 put_none xs at = rw add-zero (take-append-drop at xs)
 
-pub put_next : (xs : List ℕ) (at x : ℕ) (ys : List ℕ) → at < length xs → put (set xs at x) (suc at) ys ≡ put xs at (x ∷ ys)
+pub put_first : (xs bs : List ℕ) {ys : List ℕ} → ys ≡ bs → ys ++ drop (length bs) xs ≡ put xs 0 bs
 unfolding put
-put_next [] at x ys h = absurd (omega arith)
-put_next (y ∷ xs) zero x ys h =
-    let e : 1 + length ys ≡ suc (length ys) = omega arith in
-    let f : 0 + suc (length ys) ≡ suc (length ys) = omega arith in
-    rw (e, f)
-put_next (y ∷ xs) (suc at) x ys h = put_cons y (set xs at x) (suc at) ys ∙ ap (λ (zs : List ℕ). y ∷ zs) (put_next xs at x ys (omega arith)) ∙ sym (put_cons y xs at (x ∷ ys))
+put_first xs bs e = rw (zero-add, e)
 
 -- bytes behind the bytes that were put
 put_after : (ps d cs : List ℕ) → put (ps ++ d) (length ps) cs ≡ ps ++ (cs ++ drop (length cs) d)

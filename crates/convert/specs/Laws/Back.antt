@@ -1,19 +1,19 @@
 -- Laws of ../Convert.antt. Document 02, W10: a conversion keeps the rules, "there and back gives the same bytes, each way"; "A reader of the
 -- first release answers 5 to version 2".
 use Prim.Native.Nat.{ℕ, ◌≤◌, max}
-use Rattle.std.proofs.Common.{zero-mul, arith, ap₂, ◌∙◌}
+use Rattle.std.proofs.Common.{zero-mul, arith, ap₂, ◌∙◌, Ok, Some, None}
 use Rattle.std.specs.Prelude.{◌≡◌, Bool, List, leb, eqb, length, take, drop}
 use Rattle.std.proofs.Math.Path.{refl, sym, ap}
 use Rattle.std.proofs.Math.Bool.{true, false}
 use borrow.Author.Tests.{le-leb, leb-true, eq-eqb, ne_eqb, eqb-true}
 use Rattle.format.specs.declared.Fault.{Fault}
-use Rattle.format.specs.declared.Outcome.{Outcome}
+use Rattle.kind.specs.Answers.{Edition}
+use Rattle.format.specs.Answers.{Outcome}
 use Rattle.format.specs.Format.{Answer, got, refused, pick, whole, Bytes}
 use Rattle.format.specs.Laws.Format.{apart, went, mapped_got}
 use Rattle.format.specs.ReadWrite.{pair_read}
 use Rattle.format.specs.Combinators.{pair, via}
 use Rattle.kind.specs.declared.Product.{Product}
-use Rattle.kind.specs.declared.Edition.{Edition}
 use Rattle.kind.specs.Kinds.{edition_of}
 use Rattle.rule.specs.Rule.{Rule}
 use Rattle.deck.specs.Deck.{Deck, version, rule_list, deck, read_as}
@@ -92,13 +92,13 @@ module _ (p : Product) (v : ℕ) (s : List ℕ) where
 -- ---- a conversion that is done
 
 -- a plan that was done
-done : (q : Plan Deck) {m : ℕ} → Outcome.Done m ≡ says q → (k : Deck) × ((q ≡ become k) × (m ≡ length (afresh k)))
+done : (q : Plan Deck) {m : ℕ} → Ok m ≡ says q → (k : Deck) × ((q ≡ become k) × (m ≡ length (afresh k)))
 unfolding says
 done (become k) e = (k, (refl, cc))
 done (refuse c q) e = absurd (let z : ◌≡◌ {A = ℕ} 0 1 = cc in omega arith)
 done (refuse_given c q) e = absurd (let z : ◌≡◌ {A = ℕ} 0 1 = cc in omega arith)
 
-module _ (edition v u : ℕ) (s d : List ℕ) {m : ℕ} {d' : List ℕ} (c : Converts edition v u s d (Outcome.Done m) d') where
+module _ (edition v u : ℕ) (s d : List ℕ) {m : ℕ} {d' : List ℕ} (c : Converts edition v u s d (Ok m) d') where
   -- the deck that was put
   put : (x : Deck) × ((other_plan edition v u (length d) s ≡ become x) × (m ≡ length (afresh x)))
   put = done (other_plan edition v u (length d) s) c.0
@@ -125,7 +125,7 @@ module _ (edition v u : ℕ) (s d : List ℕ) {m : ℕ} {d' : List ℕ} (c : Con
       t : take m d' ≡ afresh x
       t = ap (take m) put_there ∙ take_laid (afresh x) m d (sym put.1.1)
 
-      read : (p : Product) (a : Answer Deck) → edition_of edition ≡ Edition.Of p → read_only p v s ≡ a → in_other u (length d) a ≡ become x → Converted edition v u s m d'
+      read : (p : Product) (a : Answer Deck) → edition_of edition ≡ Some p → read_only p v s ≡ a → in_other u (length d) a ≡ become x → Converted edition v u s m d'
       read p (got k n) ed r q =
           let o = only_took p v s r in
           let w = read_writes_back p s k n bs o.0 in
@@ -146,14 +146,14 @@ module _ (edition v u : ℕ) (s d : List ℕ) {m : ℕ} {d' : List ℕ} (c : Con
       read p (refused h o) ed r q = absurd (let z : ◌≡◌ {A = ℕ} 0 1 = cc in omega arith)
 
       by : (o : Edition) → edition_of edition ≡ o → plan_other o v u (length d) s ≡ become x → Converted edition v u s m d'
-      by (Edition.Of p) ed q = read p (read_only p v s) ed refl q
-      by Edition.Unknown ed q = absurd (let z : ◌≡◌ {A = ℕ} 0 1 = cc in omega arith)
+      by (Some p) ed q = read p (read_only p v s) ed refl q
+      by None ed q = absurd (let z : ◌≡◌ {A = ℕ} 0 1 = cc in omega arith)
 
 -- ---- and back
 
 -- into any buffer that has room for the deck that there was
 pub there_and_back : (edition v u : ℕ) (s d e : List ℕ) {m : ℕ} {d' e' : List ℕ} {r : Outcome} → Bytes s → version.Fit u
-    → Converts edition v u s d (Outcome.Done m) d' → Converts edition u v (take m d') e r e' → length s ≤ length e → (r ≡ Outcome.Done (length s)) × (take (length s) e' ≡ s)
+    → Converts edition v u s d (Ok m) d' → Converts edition u v (take m d') e r e' → length s ≤ length e → (r ≡ Ok (length s)) × (take (length s) e' ≡ s)
 unfolding other_plan says leaves
 there_and_back edition v u s d e {m} {d'} {e'} {r} bs fu c b l =
     let x = converted edition v u s d c bs fu in
@@ -164,14 +164,14 @@ there_and_back edition v u s d e {m} {d'} {e'} {r} bs fu c b l =
     let o = only_takes p u (take m d') x.is refl in
     let j = room_is (length rs) (length (written v rs)) (length e) (deck_small p (deck_of v rs) w.fit) (omega (arith, w.short)) (omega arith) in
     let q : other_plan edition u v (length e) (take m d') ≡ become (deck_of v rs) = rw (x.known, o, ← j) in
-    (b.0 ∙ ap says q ∙ ap Outcome.Done n, ap (take (length s)) (b.1 ∙ ap (leaves 0 e) q) ∙ take_laid (written v rs) _ e n ∙ sym w.is)
+    (b.0 ∙ ap says q ∙ ap Ok n, ap (take (length s)) (b.1 ∙ ap (leaves 0 e) q) ∙ take_laid (written v rs) _ e n ∙ sym w.is)
 
 -- each way
 module _ (edition : ℕ) (s d e : List ℕ) {m : ℕ} {d' e' : List ℕ} {r : Outcome} (bs : Bytes s) where
-  pub up_and_down : Converts edition 1 2 s d (Outcome.Done m) d' → Converts edition 2 1 (take m d') e r e' → length s ≤ length e → (r ≡ Outcome.Done (length s)) × (take (length s) e' ≡ s)
+  pub up_and_down : Converts edition 1 2 s d (Ok m) d' → Converts edition 2 1 (take m d') e r e' → length s ≤ length e → (r ≡ Ok (length s)) × (take (length s) e' ≡ s)
   up_and_down = there_and_back edition 1 2 s d e bs (version_fits 2 (omega arith) (omega arith))
 
-  pub down_and_up : Converts edition 2 1 s d (Outcome.Done m) d' → Converts edition 1 2 (take m d') e r e' → length s ≤ length e → (r ≡ Outcome.Done (length s)) × (take (length s) e' ≡ s)
+  pub down_and_up : Converts edition 2 1 s d (Ok m) d' → Converts edition 1 2 (take m d') e r e' → length s ≤ length e → (r ≡ Ok (length s)) × (take (length s) e' ≡ s)
   down_and_up = there_and_back edition 2 1 s d e bs (version_fits 1 (omega arith) (omega arith))
 
 -- ---- in version 1 rules take the fewest bytes

@@ -1,5 +1,5 @@
 -- Laws of ../Convert.antt: how the code converts; there and back; what a reader of one version alone answers to another.
-use Rattle.std.specs.Prelude.{ℕ, ◌+◌, ◌-◌, ◌*◌, ◌≤◌, ◌<◌, Bool, eqb, take, drop}
+use Rattle.std.specs.Prelude.{ℕ, ◌+◌, ◌-◌, ◌*◌, ◌≤◌, ◌<◌, Bool, eqb, take, drop, Ok, Err, Some, None}
 use Rattle.std.proofs.Common.{zero-mul, arith, sym, ◌∙◌, length-drop, length-take-le, take-add, drop_at, take_all}
 use Rattle.std.proofs.Math.Path.{◌≡◌, refl, ap}
 use Rattle.std.proofs.Math.Bool.{true, false}
@@ -7,18 +7,18 @@ use mathlib.Core.List.{List, [], ◌∷◌, ◌++◌, append_assoc, append-nil}
 use Rattle.std.proofs.Math.ListN.{length, length-append}
 use borrow.Author.Tests.{le-leb, lt-leb}
 use Rattle.format.specs.declared.Fault.{Fault}
-use Rattle.format.specs.declared.Outcome.{Outcome}
-use Rattle.format.specs.declared.Read.{Read}
+use Rattle.kind.specs.Answers.{Edition}
+use Rattle.format.specs.Answers.{Outcome, Read}
+use Rattle.scan.specs.Answers.{Scan}
+use Rattle.format.specs.declared.Refusal.{Refusal}
+use Rattle.format.specs.declared.Refusal.TheVariants.{At}
 use Rattle.format.specs.Format.{Answer, got, refused, pick, Bytes}
 use Rattle.format.specs.ReadWrite.{value, spelt}
 use Rattle.format.specs.Laws.ReadWrite.{length_spelt}
 use Rattle.format.specs.Laws.Seen.{seen, itself, told}
 use Rattle.kind.specs.declared.Product.{Product}
-use Rattle.kind.specs.declared.Edition.{Edition}
 use Rattle.kind.specs.Kinds.{edition_of}
 use Rattle.rule.specs.Rule.{Rule}
-use Rattle.scan.specs.declared.Scan.{Scan}
-use Rattle.scan.specs.Scan.{scan_says}
 use Rattle.deck.specs.Deck.{Deck, mark, version, wide, base_of, read_as, read_by, read_deck, scanned}
 use Rattle.deck.specs.Written.{deck_of, written}
 use Rattle.deck.specs.Laws.Deck.{wide_two, wide_none, base_is, deck_small, deck_rules}
@@ -38,8 +38,8 @@ use Rattle.convert.specs.Convert.{only_in, read_only, in_other, other_plan, Conv
 
 -- ---- the version judged
 abbrev pub taken_in : ℕ → Read → Bool
-taken_in v (Read.Got m u) = eqb u v
-taken_in v (Read.No q c) = true
+taken_in v (Ok (m, u)) = eqb u v
+taken_in v (Err why) = true
 
 module _ (p : Product) (v : ℕ) (s : List ℕ) {h : Read} (e : h ≡ seen itself version s 0) (l : length s ≤ 60000) where
   only : (b : Bool) → taken_in v h ≡ b → read_only p v s ≡ pick b (read_as p s) (refused Fault.Version 3)
@@ -97,9 +97,9 @@ module _ (s : List ℕ) (base n u : ℕ) where
     long e en = rw lent (omega (arith, base_is u n e, ap (base_of u) en, written_long u rs))
 
   module _ (d : List ℕ) (w : ℕ) where
-    pub rewrite_out : {t : Outcome} → w ≡ wide u → t ≡ room_for n (7 + w * n + length (take (length s - base) (drop base s))) (length d) → ((x : ℕ) → t ≡ Outcome.Done x → ⊥) → Rewrites s base n u d t d
+    pub rewrite_out : {t r : Outcome} {why : Refusal} → w ≡ wide u → t ≡ room_for n (7 + w * n + length (take (length s - base) (drop base s))) (length d) → t ≡ Err why → r ≡ Err why → Rewrites s base n u d r d
     unfolding Rewrites
-    rewrite_out ew j h p v rs o eb en = made_out u 0 d refl j h en (long p v rs o eb ew en)
+    rewrite_out ew j h er p v rs o eb en = made_out u 0 d refl j h er en (long p v rs o eb ew en)
 
     -- header and rules stand there
     module _ (p : Product) (v : ℕ) (rs : List Rule) (o : Sound p v s rs) (eb : base ≡ base_of v (length rs)) (en : n ≡ length rs) (ew : w ≡ wide u) (l : 7 + w * n + length (rules 0 rs) ≤ length d) where
@@ -120,11 +120,11 @@ module _ (s : List ℕ) (base n u : ℕ) where
           let h₂ = holds_put (P ++ G) X [] R {at = 7 + w * n} h₁ (rw append-nil (sym (append_assoc P G X))) (omega (arith, length-append P G, lp, lg)) (length-take-le (length R) (drop (7 + w * n) d) (omega (arith, length-drop (7 + w * n) d))) (e₂ ∙ rw (lent p v rs o eb)) in
           (G, (lg, rw (append-nil R, append_assoc P G R) at h₂))
 
-    finish : {t : Outcome} {y : List ℕ} {x : ℕ} (p : Product) (v : ℕ) (rs : List Rule) → Sound p v s rs → base ≡ base_of v (length rs) → n ≡ length rs → w ≡ wide u → t ≡ room_for n (7 + w * n + length (take (length s - base) (drop base s))) (length d) → t ≡ Outcome.Done x
+    finish : {t : Outcome} {y : List ℕ} {x : ℕ} (p : Product) (v : ℕ) (rs : List Rule) → Sound p v s rs → base ≡ base_of v (length rs) → n ≡ length rs → w ≡ wide u → t ≡ room_for n (7 + w * n + length (take (length s - base) (drop base s))) (length d) → t ≡ Ok x
         → Holds y (written u rs) (7 + w * n + length (rules 0 rs)) d → Does u 0 (become rs) d t y
     finish p v rs o eb en ew j h k = made_in u 0 d j h k refl refl (sym (long p v rs o eb ew en)) (rw (lent p v rs o eb) (omega arith)) en
 
-    room : {t : Outcome} {x : ℕ} (p : Product) (v : ℕ) (rs : List Rule) → Sound p v s rs → base ≡ base_of v (length rs) → t ≡ room_for n (7 + w * n + length (take (length s - base) (drop base s))) (length d) → t ≡ Outcome.Done x → 7 + w * n + length (rules 0 rs) ≤ length d
+    room : {t : Outcome} {x : ℕ} (p : Product) (v : ℕ) (rs : List Rule) → Sound p v s rs → base ≡ base_of v (length rs) → t ≡ room_for n (7 + w * n + length (take (length s - base) (drop base s))) (length d) → t ≡ Ok x → 7 + w * n + length (rules 0 rs) ≤ length d
     room p v rs o eb j h = rw (lent p v rs o eb) at (roomy n (7 + w * n + length (take (length s - base) (drop base s))) (length d) j h).inside
 
     -- offsets of no bytes
@@ -139,13 +139,13 @@ module _ (s : List ℕ) (base n u : ℕ) where
         nothing [] e = refl
         nothing (x ∷ xs) e = absurd (omega arith)
 
-    pub rewrite_plain : {t : Outcome} {x : ℕ} {y₁ y₂ : List ℕ} → w ≡ wide u → t ≡ room_for n (7 + w * n + length (take (length s - base) (drop base s))) (length d) → t ≡ Outcome.Done x → y₁ ≡ headed u n d → y₂ ≡ put_in y₁ (7 + w * n) (take (length s - base) (drop base s)) → (u ≡ 2 → ⊥) → Rewrites s base n u d t y₂
+    pub rewrite_plain : {t : Outcome} {x : ℕ} {y₁ y₂ : List ℕ} → w ≡ wide u → t ≡ room_for n (7 + w * n + length (take (length s - base) (drop base s))) (length d) → t ≡ Ok x → y₁ ≡ headed u n d → y₂ ≡ put_in y₁ (7 + w * n) (take (length s - base) (drop base s)) → (u ≡ 2 → ⊥) → Rewrites s base n u d t y₂
     unfolding Rewrites
     rewrite_plain {y₂ = y₂} ew j h e₁ e₂ other p v rs o eb en =
         let k = both p v rs o eb en ew (room p v rs o eb j h) e₁ e₂ in
         finish p v rs o eb en ew j h (rw (plain_is rs k.0 en k.1.0 ew other) at k.1.1)
 
-    pub rewrite_two : {t : Outcome} {x : ℕ} {y₁ y₂ : List ℕ} (y₃ : List ℕ) → w ≡ wide u → t ≡ room_for n (7 + w * n + length (take (length s - base) (drop base s))) (length d) → t ≡ Outcome.Done x → y₁ ≡ headed u n d → y₂ ≡ put_in y₁ (7 + w * n) (take (length s - base) (drop base s)) → u ≡ 2 → Offsets n y₂ y₃ → Rewrites s base n u d t y₃
+    pub rewrite_two : {t : Outcome} {x : ℕ} {y₁ y₂ : List ℕ} (y₃ : List ℕ) → w ≡ wide u → t ≡ room_for n (7 + w * n + length (take (length s - base) (drop base s))) (length d) → t ≡ Ok x → y₁ ≡ headed u n d → y₂ ≡ put_in y₁ (7 + w * n) (take (length s - base) (drop base s)) → u ≡ 2 → Offsets n y₂ y₃ → Rewrites s base n u d t y₃
     unfolding Rewrites Offsets lead
     rewrite_two y₃ ew j h e₁ e₂ two f p v rs o eb en =
         let k = both p v rs o eb en ew (room p v rs o eb j h) e₁ e₂ in
@@ -158,17 +158,27 @@ module _ (s : List ℕ) (base n u : ℕ) where
         finish p v rs o eb en ew j h (rw z at y)
 
 -- ---- the whole
+
+-- where rules start, and how many
+abbrev base_in : Scan → ℕ
+base_in (Ok (w, b, n, m)) = b
+base_in (Err why) = 0
+
+abbrev number_in : Scan → ℕ
+number_in (Ok (w, b, n, m)) = n
+number_in (Err why) = 0
+
 module _ (edition v u : ℕ) (s d : List ℕ) where
-  pub convert_unknown : {e : Edition} → e ≡ edition_of edition → e ≡ Edition.Unknown → Converts edition v u s d (Outcome.No Fault.Edition 0) d
+  pub convert_unknown : {e : Edition} → e ≡ edition_of edition → e ≡ None → Converts edition v u s d (Err (At Fault.Edition 0)) d
   unfolding other_plan says leaves
   convert_unknown e h = rw (← e, h) (refl, refl)
 
-  module _ {e : Edition} {p : Product} (e₁ : e ≡ edition_of edition) (e₂ : e ≡ Edition.Of p) where
-    pub convert_long : 60000 < length s → Converts edition v u s d (Outcome.No Fault.Long 60000) d
+  module _ {e : Edition} {p : Product} (e₁ : e ≡ edition_of edition) (e₂ : e ≡ Some p) where
+    pub convert_long : 60000 < length s → Converts edition v u s d (Err (At Fault.Long 60000)) d
     unfolding other_plan read_only pick says leaves
     convert_long l = rw (← e₁, e₂, lt-leb (length s) 60000 l) (refl, refl)
 
-    pub convert_other : {h : Read} → length s ≤ 60000 → h ≡ seen itself version s 0 → taken_in v h ≡ false → Converts edition v u s d (Outcome.No Fault.Version 3) d
+    pub convert_other : {h : Read} → length s ≤ 60000 → h ≡ seen itself version s 0 → taken_in v h ≡ false → Converts edition v u s d (Err (At Fault.Version 3)) d
     unfolding other_plan says leaves
     convert_other l h t = rw (← e₁, e₂, only_other p v s h l t) (refl, refl)
 
@@ -178,35 +188,35 @@ module _ (edition v u : ℕ) (s d : List ℕ) where
       unfolding read_deck read_by
       read = rw (← e₁, e₂)
 
-      pub convert_no : {f : Fault} {q : ℕ} {r : Outcome} → c ≡ Scan.No f q → r ≡ scan_says c → Converts edition v u s d r d
+      pub convert_no : {why : Refusal} {r : Outcome} → c ≡ Err why → r ≡ Err why → Converts edition v u s d r d
       unfolding other_plan says leaves
-      convert_no {f} {q} {r} k er = rw (← e₁, e₂, only_is p v s eh l t) (go (read_as p s) (sym k ∙ ec ∙ ap scanned read))
+      convert_no {why} {r} k er = rw (← e₁, e₂, only_is p v s eh l t) (go (read_as p s) (sym k ∙ ec ∙ ap scanned read))
         where
-          go : (a : Answer Deck) → Scan.No f q ≡ scanned a → (r ≡ says (in_other u (length d) a)) × (d ≡ leaves 0 d (in_other u (length d) a))
+          go : (a : Answer Deck) → Err why ≡ scanned a → (r ≡ says (in_other u (length d) a)) × (d ≡ leaves 0 d (in_other u (length d) a))
           go (got k m) z = absurd (let y : ◌≡◌ {A = ℕ} 0 1 = cc in omega arith)
-          go (refused x y) z = (er ∙ ap scan_says k ∙ (cc), refl)
+          go (refused x y) z = (er ∙ (cc), refl)
 
-      pub convert_is : {w b n m : ℕ} (r : Outcome) (d' : List ℕ) → Bytes s → c ≡ Scan.Is w b n m → Rewrites s b n u d r d' → Converts edition v u s d r d'
+      pub convert_is : {w b n m : ℕ} (r : Outcome) (d' : List ℕ) → Bytes s → c ≡ Ok (w, b, n, m) → Rewrites s b n u d r d' → Converts edition v u s d r d'
       unfolding other_plan Rewrites
       convert_is {w} {b} {n} {m} r d' bs k f = rw (← e₁, e₂, only_is p v s eh l t) (go (read_as p s) refl (sym k ∙ ec ∙ ap scanned read))
         where
-          go : (a : Answer Deck) → read_as p s ≡ a → Scan.Is w b n m ≡ scanned a → (r ≡ says (in_other u (length d) a)) × (d' ≡ leaves 0 d (in_other u (length d) a))
-          go (got x i) e z = f p x.version x.rules (sound_read p s x i bs e) (cc) (cc)
+          go : (a : Answer Deck) → read_as p s ≡ a → ◌≡◌ {A = Scan} (Ok (w, b, n, m)) (scanned a) → (r ≡ says (in_other u (length d) a)) × (d' ≡ leaves 0 d (in_other u (length d) a))
+          go (got x i) e z = f p x.version x.rules (sound_read p s x i bs e) (ap base_in z) (ap number_in z)
           go (refused x y) e z = absurd (let q : ◌≡◌ {A = ℕ} 0 1 = cc in omega arith)
 
 -- the bounds of a deck that was accepted
-pub convert_ready : (edition : ℕ) (s : List ℕ) {c : Scan} {w b n m : ℕ} → Bytes s → c ≡ scanned (read_deck edition s) → c ≡ Scan.Is w b n m → (b ≤ length s) × (length s ≤ 60000) × (n ≤ 256)
+pub convert_ready : (edition : ℕ) (s : List ℕ) {c : Scan} {w b n m : ℕ} → Bytes s → c ≡ scanned (read_deck edition s) → c ≡ Ok (w, b, n, m) → (b ≤ length s) × (length s ≤ 60000) × (n ≤ 256)
 unfolding read_deck read_by
 convert_ready edition s {w = w} {b = b} {n = n} {m = m} bs e k = by (edition_of edition) (sym k ∙ e)
   where
-    go : (p : Product) (a : Answer Deck) → read_as p s ≡ a → Scan.Is w b n m ≡ scanned a → (b ≤ length s) × (length s ≤ 60000) × (n ≤ 256)
+    go : (p : Product) (a : Answer Deck) → read_as p s ≡ a → ◌≡◌ {A = Scan} (Ok (w, b, n, m)) (scanned a) → (b ≤ length s) × (length s ≤ 60000) × (n ≤ 256)
     go p (got x i) r z =
         let y = sound_read p s x i bs r in
-        let eb : b ≡ base_of x.version (length x.rules) = cc in
-        let en : n ≡ length x.rules = cc in
+        let eb : b ≡ base_of x.version (length x.rules) = ap base_in z in
+        let en : n ≡ length x.rules = ap number_in z in
         (omega (arith, eb, ap length y.is, written_long x.version x.rules), y.short, omega (arith, en, deck_small p x y.fit))
     go p (refused f q) r z = absurd (let u : ◌≡◌ {A = ℕ} 0 1 = cc in omega arith)
 
-    by : (o : Edition) → Scan.Is w b n m ≡ scanned (read_by o s) → (b ≤ length s) × (length s ≤ 60000) × (n ≤ 256)
-    by (Edition.Of p) z = go p (read_as p s) refl z
-    by Edition.Unknown z = absurd (let u : ◌≡◌ {A = ℕ} 0 1 = cc in omega arith)
+    by : (o : Edition) → ◌≡◌ {A = Scan} (Ok (w, b, n, m)) (scanned (read_by o s)) → (b ≤ length s) × (length s ≤ 60000) × (n ≤ 256)
+    by (Some p) z = go p (read_as p s) refl z
+    by None z = absurd (let u : ◌≡◌ {A = ℕ} 0 1 = cc in omega arith)

@@ -25,10 +25,10 @@ pub returns-in_default : goal.returns-in_default
 returns-in_default c = turn_stop _ _ _ _ c.loop-i.invariant.0 c.loop-i-test.true (sym c.starts_at.ensures ∙ c.if-not-starts_at.false) c.rule_at-r.ensures c.in_default.is
 
 pub overflow_add-t : goal.overflow_add-t
-overflow_add-t c = omega (arith, c.loop-i-test.true, c.loop-i.invariant.1.0, c.requires.1, rule_small _ _ c.args.s.now _ (bytes_all c.args.s.now c.shared_slice_known-1.given) c.rule_at-r.ensures c.in-Got.is)
+overflow_add-t c = omega (arith, c.loop-i-test.true, c.loop-i.invariant.1.0, c.requires.1, rule_small _ _ c.args.s.now _ (bytes_all c.args.s.now c.shared_slice_known-1.given) c.rule_at-r.ensures c.in-Ok.is)
 
 pub loop-i-preserved : goal.loop-i-preserved
-loop-i-preserved c = (turn_go _ _ _ _ c.loop-i.invariant.0 c.loop-i-test.true (sym c.starts_at.ensures ∙ c.if-not-starts_at.false) c.rule_at-r.ensures c.in-Got.is, (omega (arith, c.loop-i-test.true, c.loop-i.invariant.1.0, rule_small _ _ c.args.s.now _ (bytes_all c.args.s.now c.shared_slice_known-1.given) c.rule_at-r.ensures c.in-Got.is), omega (arith, c.loop-i-test.true)))
+loop-i-preserved c = (turn_go _ _ _ _ c.loop-i.invariant.0 c.loop-i-test.true (sym c.starts_at.ensures ∙ c.if-not-starts_at.false) c.rule_at-r.ensures c.in-Ok.is, (omega (arith, c.loop-i-test.true, c.loop-i.invariant.1.0, rule_small _ _ c.args.s.now _ (bytes_all c.args.s.now c.shared_slice_known-1.given) c.rule_at-r.ensures c.in-Ok.is), omega (arith, c.loop-i-test.true)))
 
 pub returns : goal.returns
 returns c = turn_done _ _ _ _ c.loop-i.invariant.0 (omega (arith, c.loop-i-test.false))

@@ -9,4 +9,4 @@ pub returns-in_default : goal.returns-in_default
 returns-in_default c = starts_never _ _ _ (omega (arith, c.if-version-ne2.false)) c.requires.1 c.u32_at-o.ensures c.in_default.is
 
 pub returns : goal.returns
-returns c = starts_is _ _ _ _ (omega (arith, c.if-version-ne2.false)) c.requires.1 c.requires.2 c.u32_at-o.ensures c.in-Got.is
+returns c = starts_is _ _ _ _ (omega (arith, c.if-version-ne2.false)) c.requires.1 c.requires.2 c.u32_at-o.ensures c.in-Ok.is

@@ -1,5 +1,5 @@
 -- Laws of ../Deck.antt: both halves of demand 2 for the whole deck; how the code passes over one; no place that a read answers is above 60,000.
-use Rattle.std.specs.Prelude.{ℕ, ◌+◌, ◌-◌, ◌*◌, ◌≤◌, ◌<◌, ◌≡◌, refl, Bool, leb}
+use Rattle.std.specs.Prelude.{ℕ, ◌+◌, ◌-◌, ◌*◌, ◌≤◌, ◌<◌, ◌≡◌, refl, Bool, leb, Ok, Err, Some, None}
 use Rattle.std.proofs.Common.{add-zero, zero-mul, mul-suc, mul-le-mul_left, mul-le-mul_right, le_trans, arith, ◌∙◌, le-leb, leb-true, eq-eqb, ne_eqb, eqb-true}
 use Rattle.std.proofs.Math.Nat.{zero-add}
 use Rattle.std.proofs.Math.Path.{sym, ap, ap₂}
@@ -10,10 +10,12 @@ use Rattle.std.proofs.Math.Dec.{eqb}
 use Rattle.std.proofs.Math.Seq.{drop-length, drop-drop}
 use Rattle.std.proofs.lemmas.Bool.{lt-leb}
 use Rattle.format.specs.declared.Fault.{Fault}
-use Rattle.format.specs.declared.Outcome.{Outcome}
-use Rattle.format.specs.declared.Outcome.TheVariants.{No}
+use Rattle.kind.specs.Answers.{Edition}
+use Rattle.format.specs.Answers.{Outcome, Read}
+use Rattle.scan.specs.Answers.{Scan}
+use Rattle.format.specs.declared.Refusal.{Refusal}
+use Rattle.format.specs.declared.Refusal.TheVariants.{At}
 use Rattle.format.specs.Fault.{place_of}
-use Rattle.format.specs.Laws.Fault.{end_says}
 use Rattle.format.specs.Format.{Answer, got, refused, shift, mapped, and_then, end_of, Bytes, pick, whole}
 use Rattle.format.specs.Laws.Format.{apart, bytes_drop}
 use Rattle.format.specs.ReadWrite.{pair_read, pair_write, value, spelt, AllFit}
@@ -22,19 +24,15 @@ use Rattle.format.specs.Combinators.{pair, seq, judged, via, ◌then◌, number,
 use Rattle.format.specs.Index.{onward, values_read, indexed_read, index_write, indexed_write}
 use Rattle.format.specs.Indexed.{indexed}
 use Rattle.format.specs.Laws.Indexed.{telling, offset_is, no_offset, offset_never, offset_is_lem, index_stop, index_start, values_done, values_off, values_stop, values_go, indexed_many}
-use Rattle.format.specs.declared.Read.{Read}
-use Rattle.format.specs.Laws.Seen.{told, seen, itself, none, told_got, told_no, pair_stop, pair_go, via_is}
+use Rattle.format.specs.Laws.Seen.{told, seen, itself, none, told_got, told_why, pair_stop, pair_go, via_is}
 use Rattle.format.specs.Laws.Back.{seen_fits, seen_ends}
 use Rattle.format.specs.Row.{total}
 use Rattle.format.specs.Laws.Rows.{added, added_none, added_twice, counted_is, row_there}
 use Rattle.kind.specs.declared.Product.{Product}
-use Rattle.kind.specs.declared.Edition.{Edition}
 use Rattle.kind.specs.Kinds.{edition_of}
 use Rattle.rule.specs.Rule.{Rule, rule, elements_in}
 use Rattle.rule.specs.Laws.Rule.{ComputingRules}
-use Rattle.scan.specs.declared.Scan.{Scan}
 use Rattle.scan.specs.Scan.{scan_says}
-use Rattle.scan.specs.Laws.Scan.{no_scan, scan_hands}
 use Rattle.deck.specs.Deck.{Deck, mark, version, rule_count, wide, rule_list, deck, base_of, read_as, read_by, read_deck, answered, scanned}
 use Rattle.deck.specs.Written.{deck_of}
 
@@ -83,7 +81,7 @@ unfolding bytes mark value
 mark_is s at e = e
 
 -- at most 256 rules were read
-pub count_small : (s : List ℕ) (at : ℕ) {h : Read} {n m : ℕ} → Bytes s → h ≡ seen itself rule_count s at → h ≡ Read.Got m n → n ≤ 256
+pub count_small : (s : List ℕ) (at : ℕ) {h : Read} {n m : ℕ} → Bytes s → h ≡ seen itself rule_count s at → h ≡ Ok (m, n) → n ≤ 256
 unfolding count judged
 count_small s at bs e k = let o = seen_fits itself rule_count s at bs e k in rw o.1.1 (within_is 0 256 o.0 o.1.0.1).1
 
@@ -110,7 +108,7 @@ pub index_small : (w n : ℕ) → w ≤ 4 → n ≤ 256 → w * n ≤ 1024
 index_small w n l m = le_trans (mul-le-mul_right n l) (omega arith)
 
 -- of no bytes there are n wherever there is nothing to read
-pub none_there : (v : ℕ) (s : List ℕ) (n at : ℕ) → (v ≡ 2 → ⊥) → Read.Got at 0 ≡ seen none (each (λ i. number (wide v)) 0 n) s at
+pub none_there : (v : ℕ) (s : List ℕ) (n at : ℕ) → (v ≡ 2 → ⊥) → Ok (at, 0) ≡ seen none (each (λ i. number (wide v)) 0 n) s at
 unfolding seen each told
 none_there v s n at h =
     let z = wide_none h in
@@ -136,10 +134,10 @@ module _ (v : ℕ) (s : List ℕ) (i : ℕ) where
   starts_none p h = rw (← wide_none h) (sym (no_offset 7 s i p))
 
   module _ {o : Read} where
-    pub starts_never : {B : Type 0} {d : Fault} {q : ℕ} → v ≡ 2 → wide v * (i + 1) ≤ length s - 7 → o ≡ seen itself (number 4) s (7 + 4 * i) → o ≡ Read.No q d → B
+    pub starts_never : {B : Type 0} {why : Refusal} → v ≡ 2 → wide v * (i + 1) ≤ length s - 7 → o ≡ seen itself (number 4) s (7 + 4 * i) → o ≡ Err why → B
     starts_never h l e k = offset_never 4 7 s i e (rw (← wide_two h) at l) k
 
-    pub starts_is : (p : ℕ) {m x : ℕ} → v ≡ 2 → wide v * (i + 1) ≤ length s - 7 → p ≤ 60000 → o ≡ seen itself (number 4) s (7 + 4 * i) → o ≡ Read.Got m x → eqb x p ≡ offset_is (wide v) 7 s i p
+    pub starts_is : (p : ℕ) {m x : ℕ} → v ≡ 2 → wide v * (i + 1) ≤ length s - 7 → p ≤ 60000 → o ≡ seen itself (number 4) s (7 + 4 * i) → o ≡ Ok (m, x) → eqb x p ≡ offset_is (wide v) 7 s i p
     starts_is p h l g e k = rw (← wide_two h) (offset_is_lem 4 7 s i e p (rw (← wide_two h) at l) (omega arith) k)
 
 -- ---- rule by rule behind their offsets: i were read, with t elements, and the next starts at q
@@ -152,20 +150,20 @@ pub record Turn (p : Product) (v n : ℕ) (s : List ℕ) (i t q : ℕ) : Type 0 
 module _ (p : Product) (v n : ℕ) (s : List ℕ) where
   -- x is what the offsets were read as
   module _ {x : Read} (e : x ≡ seen none (each (λ i. number (wide v)) 0 n) s 7) where
-    pub turn_none : {c : Fault} {q : ℕ} → x ≡ Read.No q c → x ≡ seen (total elements_in) (indexed (wide v) 7 Fault.Offset (rule p) n) s 7
+    pub turn_none : {why : Refusal} → x ≡ Err why → x ≡ seen (total elements_in) (indexed (wide v) 7 Fault.Offset (rule p) n) s 7
     turn_none k = index_stop elements_in (wide v) 7 Fault.Offset (rule p) s n none e k
 
-    pub turn_start : {m u : ℕ} → 7 ≤ length s → x ≡ Read.Got m u → Turn p v n s 0 0 m
+    pub turn_start : {m u : ℕ} → 7 ≤ length s → x ≡ Ok (m, u) → Turn p v n s 0 0 m
     turn_start {m} l k =
         let y = index_start elements_in (wide v) 7 Fault.Offset (rule p) s n none e k in
         record { tells = added_none (telling elements_in (wide v) 7 Fault.Offset (rule p) s n 0 m) ∙ y.1.1; past = omega (arith, y.0); inside = omega (arith, y.0, y.1.0); there = y.1.0 }
 
-    pub turn_base : {m u : ℕ} → x ≡ Read.Got m u → m ≡ base_of v n
+    pub turn_base : {m u : ℕ} → x ≡ Ok (m, u) → m ≡ base_of v n
     turn_base k = (index_start elements_in (wide v) 7 Fault.Offset (rule p) s n none e k).0 ∙ base_is v n refl
 
   module _ {i t q : ℕ} (o : Turn p v n s i t q) where
-    pub turn_done : n ≤ i → Read.Got q t ≡ seen (total elements_in) (indexed (wide v) 7 Fault.Offset (rule p) n) s 7
-    turn_done h = ap (λ (u : ℕ). Read.Got q u) (sym (add-zero t)) ∙ sym (ap (added t) (values_done elements_in (wide v) 7 Fault.Offset (rule p) s n i q o.past h)) ∙ o.tells
+    pub turn_done : n ≤ i → Ok (q, t) ≡ seen (total elements_in) (indexed (wide v) 7 Fault.Offset (rule p) n) s 7
+    turn_done h = ap (λ (u : ℕ). Ok (q, u)) (sym (add-zero t)) ∙ sym (ap (added t) (values_done elements_in (wide v) 7 Fault.Offset (rule p) s n i q o.past h)) ∙ o.tells
 
     offset_width : i < n → wide v * (i + 1) ≤ length s - 7
     offset_width h = le_trans (mul-le-mul_left (wide v) (omega arith)) o.there
@@ -173,15 +171,15 @@ module _ (p : Product) (v n : ℕ) (s : List ℕ) where
     pub turn_offset : i < n → n ≤ 256 → length s ≤ 60000 → (i ≤ 256) × (wide v * (i + 1) ≤ length s - 7) × (q ≤ 60000)
     turn_offset h l m = (omega arith, offset_width h, omega (arith, o.inside))
 
-    pub turn_off : i < n → offset_is (wide v) 7 s i q ≡ false → Read.No (7 + 4 * i) Fault.Offset ≡ seen (total elements_in) (indexed (wide v) 7 Fault.Offset (rule p) n) s 7
-    turn_off h b = ap (λ (w : ℕ). Read.No (7 + w * i) Fault.Offset) (sym (off_wide v s i q b)) ∙ sym (ap (added t) (values_off elements_in (wide v) 7 Fault.Offset (rule p) s n i q o.past h b)) ∙ o.tells
+    pub turn_off : i < n → offset_is (wide v) 7 s i q ≡ false → Err (At Fault.Offset (7 + 4 * i)) ≡ seen (total elements_in) (indexed (wide v) 7 Fault.Offset (rule p) n) s 7
+    turn_off h b = ap (λ (w : ℕ). Err (At Fault.Offset (7 + w * i))) (sym (off_wide v s i q b)) ∙ sym (ap (added t) (values_off elements_in (wide v) 7 Fault.Offset (rule p) s n i q o.past h b)) ∙ o.tells
 
     -- r is what rule i was read as
     module _ {r : Read} (h : i < n) (b : offset_is (wide v) 7 s i q ≡ true) (e : r ≡ seen elements_in (rule p i) s q) where
-      pub turn_stop : {c : Fault} {m : ℕ} → r ≡ Read.No m c → r ≡ seen (total elements_in) (indexed (wide v) 7 Fault.Offset (rule p) n) s 7
+      pub turn_stop : {why : Refusal} → r ≡ Err why → r ≡ seen (total elements_in) (indexed (wide v) 7 Fault.Offset (rule p) n) s 7
       turn_stop k = k ∙ ap (added t) (sym k) ∙ sym (ap (added t) (values_stop elements_in (wide v) 7 Fault.Offset (rule p) s n i q o.past b h e k)) ∙ o.tells
 
-      pub turn_go : {m u : ℕ} → r ≡ Read.Got m u → Turn p v n s (i + 1) (t + u) m
+      pub turn_go : {m u : ℕ} → r ≡ Ok (m, u) → Turn p v n s (i + 1) (t + u) m
       turn_go {m} {u} k =
           let y = values_go elements_in (wide v) 7 Fault.Offset (rule p) s n i q o.past b h e k in
           record { tells = sym (added_twice t u (telling elements_in (wide v) 7 Fault.Offset (rule p) s n (i + 1) m)) ∙ sym (ap (added t) y.1) ∙ o.tells; past = omega (arith, o.past, y.0); inside = omega (arith, o.inside, seen_ends elements_in (rule p i) s q e k); there = o.there }
@@ -194,7 +192,7 @@ scan_says_lem : (a : Answer Deck) {r : Scan} → r ≡ scanned a → (r ≡ scan
 scan_says_lem a e = (e, ap scan_says e ∙ scan_answers a)
 
 module _ (p : Product) (s : List ℕ) where
-  pub scan_long : 60000 < length s → Scan.No Fault.Long 60000 ≡ scanned (read_as p s)
+  pub scan_long : 60000 < length s → Err (At Fault.Long 60000) ≡ scanned (read_as p s)
   unfolding read_as pick
   scan_long l = rw (lt-leb (length s) 60000 l)
 
@@ -202,11 +200,15 @@ module _ (p : Product) (s : List ℕ) where
   unfolding read_as pick
   scan_of l e = rw (le-leb (length s) 60000 l, e)
 
-  scan_no : (g : Deck → ℕ) {r : Read} {c : Fault} {q : ℕ} → length s ≤ 60000 → r ≡ seen g (deck p) s 0 → r ≡ Read.No q c → Scan.No c q ≡ scanned (read_as p s)
+  scan_no : (g : Deck → ℕ) {r : Read} {why : Refusal} → length s ≤ 60000 → r ≡ seen g (deck p) s 0 → r ≡ Err why → (x : Scan) → x ≡ Err why → x ≡ scanned (read_as p s)
   unfolding seen whole
-  scan_no g {c = c} l e k =
-      let o = told_no 0 g ((deck p).read s) e k in
-      sym (scan_of l o.is ∙ ap (λ (w : ℕ). Scan.No c w) (sym (o.ends ∙ zero-add o.o)))
+  scan_no g {why = why} l e k x u =
+      let o = told_why 0 g ((deck p).read s) e k in
+      let w : why ≡ At o.c o.o = o.ends ∙ ap (λ (n : ℕ). At o.c n) (zero-add o.o) in
+      u ∙ ap (λ (z : Refusal). scan_err z) w ∙ sym (scan_of l o.is)
+    where
+      scan_err : Refusal → Scan
+      scan_err z = Err z
 
   -- what is told of its rules
   rules_told : (g : List Rule → ℕ) {r : Read} → r ≡ seen (λ q. g q.1) (pair version (rule_list p)) s 0 → r ≡ seen (λ k. g k.rules) (deck p) s 0
@@ -219,16 +221,16 @@ module _ (p : Product) (s : List ℕ) where
 
   -- h is what the version was read as, c the number of rules, r the rules behind their offsets
   module _ {h : Read} where
-    pub scan_version : {o : Outcome} {x : Scan} {f : Fault} {q : ℕ} → length s ≤ 60000 → h ≡ seen itself version s 0 → h ≡ Read.No q f → o ≡ end_says h → x ≡ no_scan o → x ≡ scanned (read_as p s)
-    scan_version l e k u w = scan_hands k u w ∙ scan_no _ l (rules_told length (pair_stop _ version _ s 0 itself e k)) k
+    pub scan_version : {why : Refusal} → length s ≤ 60000 → h ≡ seen itself version s 0 → h ≡ Err why → (x : Scan) → x ≡ Err why → x ≡ scanned (read_as p s)
+    scan_version l e k = scan_no _ l (rules_told length (pair_stop _ version _ s 0 itself e k)) k
 
     module _ {c : Read} {v a : ℕ} where
-      pub scan_count : {o : Outcome} {x : Scan} {f : Fault} {q : ℕ} → length s ≤ 60000 → h ≡ seen itself version s 0 → h ≡ Read.Got a v → c ≡ seen itself rule_count s a → c ≡ Read.No q f → o ≡ end_says c → x ≡ no_scan o → x ≡ scanned (read_as p s)
+      pub scan_count : {why : Refusal} → length s ≤ 60000 → h ≡ seen itself version s 0 → h ≡ Ok (a, v) → c ≡ seen itself rule_count s a → c ≡ Err why → (x : Scan) → x ≡ Err why → x ≡ scanned (read_as p s)
       unfolding rule_list
-      scan_count l e k i m u w = scan_hands m u w ∙ scan_no _ l (rules_told length (pair_go _ version (rule_list p) s 0 e k (counted_is length rule_count _ _ s a (pair_stop _ rule_count _ s a itself i m)))) m
+      scan_count l e k i m = scan_no _ l (rules_told length (pair_go _ version (rule_list p) s 0 e k (counted_is length rule_count _ _ s a (pair_stop _ rule_count _ s a itself i m)))) m
 
       -- the offsets start where the number of rules ends
-      behind_count : {n b : ℕ} → Bytes s → h ≡ seen itself version s 0 → h ≡ Read.Got a v → c ≡ seen itself rule_count s a → c ≡ Read.Got b n → b ≡ 7
+      behind_count : {n b : ℕ} → Bytes s → h ≡ seen itself version s 0 → h ≡ Ok (a, v) → c ≡ seen itself rule_count s a → c ≡ Ok (b, n) → b ≡ 7
       unfolding seen version count judged ◌then◌ seq via bytes mark fixed pair pair_write number
       behind_count bs e k i m =
           let x = told_got 0 itself (version.read s) e k in
@@ -237,21 +239,21 @@ module _ (p : Product) (s : List ℕ) where
           let w = (rule_count.forth (drop a s) z.x z.n (bytes_drop a s bs) z.is).ends in
           omega (arith, x.ends, z.ends, y, w, length_before 3 (value mark) (spelt 2 x.x), length_spelt 2 x.x, length_spelt 2 z.x)
 
-      pub rules_ready : {n b : ℕ} → Bytes s → h ≡ seen itself version s 0 → h ≡ Read.Got a v → c ≡ seen itself rule_count s a → c ≡ Read.Got b n → (n ≤ 256) × (7 ≤ length s)
+      pub rules_ready : {n b : ℕ} → Bytes s → h ≡ seen itself version s 0 → h ≡ Ok (a, v) → c ≡ seen itself rule_count s a → c ≡ Ok (b, n) → (n ≤ 256) × (7 ≤ length s)
       rules_ready bs e k i m = (count_small s a bs i m, omega (arith, behind_count bs e k i m, seen_ends itself version s 0 e k, seen_ends itself rule_count s a i m))
 
       module _ {r : Read} {n b : ℕ} where
-        totals : Bytes s → h ≡ seen itself version s 0 → h ≡ Read.Got a v → c ≡ seen itself rule_count s a → c ≡ Read.Got b n → r ≡ seen (total elements_in) (indexed (wide v) 7 Fault.Offset (rule p) n) s 7 → r ≡ seen (λ k. total elements_in k.rules) (deck p) s 0
+        totals : Bytes s → h ≡ seen itself version s 0 → h ≡ Ok (a, v) → c ≡ seen itself rule_count s a → c ≡ Ok (b, n) → r ≡ seen (total elements_in) (indexed (wide v) 7 Fault.Offset (rule p) n) s 7 → r ≡ seen (λ k. total elements_in k.rules) (deck p) s 0
         unfolding rule_list
         totals bs e k i m f = rules_told (total elements_in) (pair_go _ version (rule_list p) s 0 e k (counted_is (total elements_in) rule_count _ _ s a (pair_go _ rule_count (indexed (wide v) 7 Fault.Offset (rule p)) s a i m (rw (behind_count bs e k i m) f))))
 
-        pub scan_rules : {o : Outcome} {x : Scan} {f : Fault} {q : ℕ} → Bytes s → length s ≤ 60000 → h ≡ seen itself version s 0 → h ≡ Read.Got a v → c ≡ seen itself rule_count s a → c ≡ Read.Got b n → r ≡ seen (total elements_in) (indexed (wide v) 7 Fault.Offset (rule p) n) s 7 → r ≡ Read.No q f → o ≡ end_says r → x ≡ no_scan o
+        pub scan_rules : {why : Refusal} → Bytes s → length s ≤ 60000 → h ≡ seen itself version s 0 → h ≡ Ok (a, v) → c ≡ seen itself rule_count s a → c ≡ Ok (b, n) → r ≡ seen (total elements_in) (indexed (wide v) 7 Fault.Offset (rule p) n) s 7 → r ≡ Err why → (x : Scan) → x ≡ Err why
             → x ≡ scanned (read_as p s)
-        scan_rules bs l e k i m f o u w = scan_hands o u w ∙ scan_no _ l (totals bs e k i m f) o
+        scan_rules bs l e k i m f = scan_no _ l (totals bs e k i m f)
 
         module _ {t q : ℕ} where
-          scan_got : (y : Bool) (base : ℕ) → Bytes s → length s ≤ 60000 → h ≡ seen itself version s 0 → h ≡ Read.Got a v → c ≡ seen itself rule_count s a → c ≡ Read.Got b n → r ≡ seen (total elements_in) (indexed (wide v) 7 Fault.Offset (rule p) n) s 7 → r ≡ Read.Got q t → eqb q (length s) ≡ y → base ≡ base_of v n
-              → scanned (read_as p s) ≡ pick y (Scan.Is v base n t) (Scan.No Fault.Over q)
+          scan_got : (y : Bool) (base : ℕ) → Bytes s → length s ≤ 60000 → h ≡ seen itself version s 0 → h ≡ Ok (a, v) → c ≡ seen itself rule_count s a → c ≡ Ok (b, n) → r ≡ seen (total elements_in) (indexed (wide v) 7 Fault.Offset (rule p) n) s 7 → r ≡ Ok (q, t) → eqb q (length s) ≡ y → base ≡ base_of v n
+              → scanned (read_as p s) ≡ pick y (Ok (v, base, n, t)) (Err (At Fault.Over q))
           unfolding seen whole pick
           scan_got y base bs l e k i m f o w eb =
               let R = indexed (wide v) 7 Fault.Offset (rule p) n in
@@ -266,24 +268,24 @@ module _ (p : Product) (s : List ℕ) where
               scan_of l (deck_got v a n z.n u.x u.n xv zn (ap R.read d ∙ u.is))
               ∙ go y u.x (a + (z.n + u.n)) (ap (λ (m : ℕ). eqb m (length s)) ends ∙ w) (indexed_many (wide v) 7 Fault.Offset (rule p) n (drop 7 s) u.x u.n u.is) (sym u.tells) ends
             where
-              go : (y : Bool) (rs : List Rule) (d : ℕ) → eqb d (length s) ≡ y → length rs ≡ n → total elements_in rs ≡ t → d ≡ q → scanned (pick (eqb d (length s)) (got (deck_of v rs) d) (refused Fault.Over d)) ≡ pick y (Scan.Is v base n t) (Scan.No Fault.Over q)
+              go : (y : Bool) (rs : List Rule) (d : ℕ) → eqb d (length s) ≡ y → length rs ≡ n → total elements_in rs ≡ t → d ≡ q → scanned (pick (eqb d (length s)) (got (deck_of v rs) d) (refused Fault.Over d)) ≡ pick y (Ok (v, base, n, t)) (Err (At Fault.Over q))
               go true rs d ew en et eq = rw (ew, en, et, eb)
               go false rs d ew en et eq = rw (ew, eq)
 
-          pub scan_over : Bytes s → length s ≤ 60000 → h ≡ seen itself version s 0 → h ≡ Read.Got a v → c ≡ seen itself rule_count s a → c ≡ Read.Got b n → r ≡ seen (total elements_in) (indexed (wide v) 7 Fault.Offset (rule p) n) s 7 → r ≡ Read.Got q t → (q ≡ length s → ⊥) → Scan.No Fault.Over q ≡ scanned (read_as p s)
+          pub scan_over : Bytes s → length s ≤ 60000 → h ≡ seen itself version s 0 → h ≡ Ok (a, v) → c ≡ seen itself rule_count s a → c ≡ Ok (b, n) → r ≡ seen (total elements_in) (indexed (wide v) 7 Fault.Offset (rule p) n) s 7 → r ≡ Ok (q, t) → (q ≡ length s → ⊥) → Err (At Fault.Over q) ≡ scanned (read_as p s)
           unfolding pick
           scan_over bs l e k i m f o w = sym (scan_got false _ bs l e k i m f o (ne_eqb q (length s) w) refl)
 
-          pub scan_is : {base : ℕ} → Bytes s → length s ≤ 60000 → h ≡ seen itself version s 0 → h ≡ Read.Got a v → c ≡ seen itself rule_count s a → c ≡ Read.Got b n → r ≡ seen (total elements_in) (indexed (wide v) 7 Fault.Offset (rule p) n) s 7 → r ≡ Read.Got q t → q ≡ length s → base ≡ base_of v n → Scan.Is v base n t ≡ scanned (read_as p s)
+          pub scan_is : {base : ℕ} → Bytes s → length s ≤ 60000 → h ≡ seen itself version s 0 → h ≡ Ok (a, v) → c ≡ seen itself rule_count s a → c ≡ Ok (b, n) → r ≡ seen (total elements_in) (indexed (wide v) 7 Fault.Offset (rule p) n) s 7 → r ≡ Ok (q, t) → q ≡ length s → base ≡ base_of v n → Ok (v, base, n, t) ≡ scanned (read_as p s)
           unfolding pick
           scan_is {base} bs l e k i m f o w eb = sym (scan_got true base bs l e k i m f o (eq-eqb q (length s) w) eb)
 
 -- an edition's number first
-pub scan_by : (edition : ℕ) (s : List ℕ) {e : Edition} {p : Product} {r : Scan} → e ≡ edition_of edition → e ≡ Edition.Of p → r ≡ scanned (read_as p s) → (r ≡ scanned (read_deck edition s)) × (scan_says r ≡ answered (read_deck edition s))
+pub scan_by : (edition : ℕ) (s : List ℕ) {e : Edition} {p : Product} {r : Scan} → e ≡ edition_of edition → e ≡ Some p → r ≡ scanned (read_as p s) → (r ≡ scanned (read_deck edition s)) × (scan_says r ≡ answered (read_deck edition s))
 unfolding read_deck read_by
 scan_by edition s {p = p} f h o = rw (← f, h) (scan_says_lem (read_as p s) o)
 
-pub scan_none : (edition : ℕ) (s : List ℕ) {e : Edition} → e ≡ edition_of edition → e ≡ Edition.Unknown → (Scan.No Fault.Edition 0 ≡ scanned (read_deck edition s)) × (No Fault.Edition 0 ≡ answered (read_deck edition s))
+pub scan_none : (edition : ℕ) (s : List ℕ) {e : Edition} → e ≡ edition_of edition → e ≡ None → (Err (At Fault.Edition 0) ≡ scanned (read_deck edition s)) × (Err (At Fault.Edition 0) ≡ answered (read_deck edition s))
 unfolding read_deck read_by
 scan_none edition s f h = rw (← f, h) (refl, refl)
 
@@ -309,8 +311,8 @@ place_small edition s bs = by (edition_of edition)
     long p false e = omega arith
 
     by : (e : Edition) → place_of (answered (read_by e s)) ≤ 60000
-    by (Edition.Of p) = long p (leb (length s) 60000) refl
-    by Edition.Unknown = omega arith
+    by (Some p) = long p (leb (length s) 60000) refl
+    by None = omega arith
 
 -- ---- a sound deck is what stands before its rules, and they
 pub deck_rules : (p : Product) (k : Deck) → (deck p).Fit k → AllFit (rule p) 0 k.rules

@@ -1,5 +1,5 @@
 -- What stands where in a deck that was read: laws for ../Tables.antt and ../Views.antt.
-use Rattle.std.specs.Prelude.{ℕ, ◌+◌, ◌-◌, ◌*◌, ◌/◌, ◌%◌, ◌≡◌, refl, List, [], ◌∷◌, ◌++◌, length, take, drop}
+use Rattle.std.specs.Prelude.{ℕ, ◌+◌, ◌-◌, ◌*◌, ◌/◌, ◌%◌, ◌≡◌, refl, List, [], ◌∷◌, ◌++◌, length, take, drop, Ok, Err}
 use Rattle.std.proofs.Common.{arith, sym, ap, ◌∙◌, append_assoc, length-append, length-drop}
 use Rattle.std.proofs.Math.Seq.{take-append_seam}
 use Rattle.format.specs.Format.{Format, Bytes, got}
@@ -14,7 +14,7 @@ use Rattle.text.specs.Laws.Written.{string_written, string_fits, string_long, wo
 use Rattle.kind.specs.declared.Product.{Product}
 use Rattle.kind.specs.declared.Role.TheVariants.{Condition}
 use Rattle.kind.specs.declared.Kind.{Kind}
-use Rattle.kind.specs.declared.Row.{Row as KindRow}
+use Rattle.kind.specs.Answers.{Row as KindRow}
 use Rattle.element.specs.Data.{Data, words_of, data_of}
 use Rattle.element.specs.Laws.Data.{Other, words_none, list_parts}
 use Rattle.element.specs.Element.{Element, data_by}
@@ -84,8 +84,8 @@ words_row w s at {x} {u} o d = by o
     of (Kind.Dates r) b = other (Kind.Dates r) tt b
 
     by : (o : KindRow) → Stands (data_by o) s at x u → Row (λ i. word) s 0 (at + 4) (words_of x) u
-    by (KindRow.Is k) b = of k b
-    by (KindRow.No c q) b = other (Kind.Simple Condition) tt b
+    by (Ok k) b = of k b
+    by (Err why) b = other (Kind.Simple Condition) tt b
 
 -- ---- the deck s was read as the rules rs in version v, and r is rule k of them
 module _ (p : Product) (v : ℕ) (s : List ℕ) (rs : List Rule) (n : ℕ) (bs : Bytes s) (e : read_as p s ≡ got (deck_of v rs) n) (k : ℕ) {r : Rule} {later : List Rule} (is-r : drop k rs ≡ r ∷ later) where

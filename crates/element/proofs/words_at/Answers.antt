@@ -1,14 +1,8 @@
-use Rattle.format.specs.Laws.Rows.{running}
+use Rattle.std.proofs.Common.{rules}
+use Rattle.format.specs.Laws.Seen.{none}
+use Rattle.text.specs.Text.{word}
+use Rattle.each.specs.Laws.Row.{chain_seen}
 use Rattle.element.proofs.words_at.Goals as goal
 
-pub loop-i-init : goal.loop-i-init
-loop-i-init c = search running
-
-pub returns-in_default : goal.returns-in_default
-returns-in_default c = search running
-
-pub loop-i-preserved : goal.loop-i-preserved
-loop-i-preserved c = search running
-
 pub returns : goal.returns
-returns c = search running
+returns c = chain_seen _ (λ i. word) c.args.s.now none (λ p i r h. search rules) _ _ _ c.each_at.ensures

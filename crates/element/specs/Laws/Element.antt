@@ -1,16 +1,17 @@
 -- Laws of ../Element.antt: how the code reads an element.
-use Rattle.std.specs.Prelude.{ℕ, ◌<◌, ◌≡◌, List, length}
+use Rattle.std.specs.Prelude.{ℕ, ◌<◌, ◌≡◌, List, length, Ok, Err}
 use Rattle.std.proofs.Common.{arith, ap, ◌∙◌}
 use Rattle.std.proofs.Math.Path.{refl, sym}
 use Rattle.format.specs.declared.Fault.{Fault}
-use Rattle.format.specs.declared.Read.{Read}
+use Rattle.format.specs.Answers.{Read}
+use Rattle.kind.specs.Answers.{Row}
+use Rattle.format.specs.declared.Refusal.{Refusal}
+use Rattle.format.specs.declared.Refusal.TheVariants.{At}
 use Rattle.format.specs.Combinators.{judged, number}
 use Rattle.format.specs.Laws.Seen.{seen, itself, none, via_is, pair_stop, pair_go, judged_stop, judged_got, judged_no, number_no}
 use Rattle.kind.specs.declared.Product.{Product}
 use Rattle.kind.specs.declared.Role.{Role}
 use Rattle.kind.specs.declared.Kind.{Kind}
-use Rattle.kind.specs.declared.Row.{Row}
-use Rattle.kind.specs.declared.Row.TheVariants.{Is, No}
 use Rattle.kind.specs.Kinds.{kinds, row_in, row_of, offered}
 use Rattle.kind.specs.Laws.Kinds.{offered_is, lacking, foreign, ComputingKinds}
 use Rattle.text.specs.Laws.Written.{ComputingTexts}
@@ -32,37 +33,37 @@ pub simple_is : (k : Kind) (r : Role) (s : List ℕ) (at : ℕ) {out : Read} →
 unfolding simple_data
 simple_is k r s at e o = data_is k (Kind.Simple r) s at e (via_is none one_zero _ _ _ s at o)
 
-row_found : (p : Product) (id : ℕ) {r : Row} {k : Kind} → r ≡ row_of p id → r ≡ Is k → row_in kinds id ≡ Is k
+row_found : (p : Product) (id : ℕ) {r : Row} {k : Kind} → r ≡ row_of p id → r ≡ Ok k → row_in kinds id ≡ Ok k
 unfolding row_of
 row_found p id f k = offered_is p (row_in kinds id) (sym f ∙ k)
 
 -- a is what the number at a place was read as
 module _ (p : Product) (s : List ℕ) (at : ℕ) {a : Read} where
-  pub element_cut : {c : Fault} {q : ℕ} → a ≡ seen itself (number 4) s at → a ≡ Read.No q c → a ≡ seen named (element p) s at
+  pub element_cut : {why : Refusal} → a ≡ seen itself (number 4) s at → a ≡ Err why → a ≡ seen named (element p) s at
   unfolding element identifier
   element_cut e h = pair_stop named (identifier p) _ s at itself (judged_stop itself _ Fault.Foreign _ s at (judged_stop itself _ Fault.Unknown _ s at e h) h) h
 
   -- the number is id, and there is a row for it
-  in_table : {id m : ℕ} {k : Kind} → a ≡ seen itself (number 4) s at → a ≡ Read.Got m id → row_in kinds id ≡ Is k
-      → Read.Got m id ≡ seen itself (judged (λ i. is_row (row_in kinds i)) Fault.Unknown (number 4)) s at
+  in_table : {id m : ℕ} {k : Kind} → a ≡ seen itself (number 4) s at → a ≡ Ok (m, id) → row_in kinds id ≡ Ok k
+      → Ok (m, id) ≡ seen itself (judged (λ i. is_row (row_in kinds i)) Fault.Unknown (number 4)) s at
   in_table e h y = judged_got itself (λ i. is_row (row_in kinds i)) Fault.Unknown (number 4) s at e h (sym (ap is_row y)) refl
 
   -- r is its row in the product
   module _ {r : Row} {id m : ℕ} where
-    pub element_no : {c : Fault} {q : ℕ} → a ≡ seen itself (number 4) s at → a ≡ Read.Got m id → r ≡ row_of p id → r ≡ No c q → Read.No at c ≡ seen named (element p) s at
+    pub element_no : {why : Refusal} → a ≡ seen itself (number 4) s at → a ≡ Ok (m, id) → at ≡ 0 → r ≡ row_of p id → r ≡ Err why → ◌≡◌ {A = Read} (Err why) (seen named (element p) s at)
     unfolding element identifier row_of offered
-    element_no {c} {q} e h f k = pair_stop named (identifier p) _ s at itself (go (row_in kinds id) refl) refl
+    element_no {why} e h z f k = pair_stop named (identifier p) _ s at itself (go (row_in kinds id) refl) refl
       where
-        go : (w : Row) → row_in kinds id ≡ w → Read.No at c ≡ seen itself (identifier p) s at
-        go (No d o) y =
-            let u : c ≡ Fault.Unknown = lacking kinds id (y ∙ sym (ap (offered p) y) ∙ sym f ∙ k) in
+        go : (w : Row) → row_in kinds id ≡ w → ◌≡◌ {A = Read} (Err why) (seen itself (identifier p) s at)
+        go (Err d) y =
+            let u : why ≡ At Fault.Unknown at = rw z (lacking kinds id (y ∙ sym (ap (offered p) y) ∙ sym f ∙ k)) in
             rw u (judged_stop itself _ Fault.Foreign _ s at (judged_no itself (λ i. is_row (row_in kinds i)) Fault.Unknown (number 4) s at e h (sym (ap is_row y))) refl)
-        go (Is j) y =
-            let u : c ≡ Fault.Foreign = foreign p j (sym (ap (offered p) y) ∙ sym f ∙ k) in
+        go (Ok j) y =
+            let u : why ≡ At Fault.Foreign at = rw z (foreign p j (sym (ap (offered p) y) ∙ sym f ∙ k)) in
             rw u (judged_no itself (λ i. is_row (row_of p i)) Fault.Foreign _ s at (in_table e h y) refl (sym (ap is_row (sym f ∙ k))))
 
     -- x is what was read of the data of the kind
-    pub element_is : {x : Read} {k : Kind} → a ≡ seen itself (number 4) s at → a ≡ Read.Got m id → r ≡ row_of p id → r ≡ Is k → x ≡ seen (λ d. id) (data_of k) s m → x ≡ seen named (element p) s at
+    pub element_is : {x : Read} {k : Kind} → a ≡ seen itself (number 4) s at → a ≡ Ok (m, id) → r ≡ row_of p id → r ≡ Ok k → x ≡ seen (λ d. id) (data_of k) s m → x ≡ seen named (element p) s at
     unfolding element identifier
     element_is e h f k d =
         let y = row_found p id f k in
@@ -70,7 +71,7 @@ module _ (p : Product) (s : List ℕ) (at : ℕ) {a : Read} where
         (judged_got itself (λ i. is_row (row_of p i)) Fault.Foreign _ s at (in_table e h y) refl (sym (ap is_row (sym f ∙ k))) refl) refl (rw y d)
 
 -- there is no element past the end
-pub element_past : (p : Product) (s : List ℕ) (at : ℕ) → length s < at → Read.No at Fault.Cut ≡ seen named (element p) s at
+pub element_past : (p : Product) (s : List ℕ) (at : ℕ) → length s < at → Err (At Fault.Cut at) ≡ seen named (element p) s at
 element_past p s at h = element_cut p s at (number_no 4 s at (omega arith)) refl
 
 -- ---- where a case is computed

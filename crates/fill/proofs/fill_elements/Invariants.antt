@@ -5,7 +5,4 @@ use Rattle.fill.specs.Laws.Fill.{ElementsTurn}
 use Rattle.fill.proofs.fill_elements.Given as goal
 
 abbrev pub invariant-loop-j : goal.invariant-loop-j
-invariant-loop-j l = ElementsTurn l.product l.rest l.at l.rule.start l.rule.i l.n l.rule.k l.initial.t l.j l.p l.t × ((length l.t ≡ length l.initial.t) × ((l.p ≤ l.at + (length l.rest - l.at)) × (l.j ≤ l.n)))
-
-abbrev pub decreases-loop-j : goal.decreases-loop-j
-decreases-loop-j l = l.n - l.j
+invariant-loop-j l = ElementsTurn l.product l.rest l.at l.rule.start l.rule.i l.n l.rule.k l.initial.t l.j l.p l.t × ((length l.t ≡ length l.initial.t) × (l.p ≤ l.at + (length l.rest - l.at)))

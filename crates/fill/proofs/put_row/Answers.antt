@@ -5,8 +5,5 @@ use Rattle.buffer.proofs.Parts.{put_tail}
 use Rattle.lent.specs.Laws.Lent.{lent_put}
 use Rattle.fill.proofs.put_row.Goals as goal
 
-pub returns-then-t-at : goal.returns-then-t-at
-returns-then-t-at c = λ h. absurd (omega arith)
-
 pub returns : goal.returns
 returns c = λ h. put_tail _ _ _ _ (lent_put _ _ _ c.put_row.ensures (omega arith)) h ∙ put_in_lem _ _ _ h

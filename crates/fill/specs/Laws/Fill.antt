@@ -1,24 +1,28 @@
 -- Rows in a table, and a loop that fills one.
-use Rattle.std.specs.Prelude.{ℕ, ◌+◌, ◌*◌, ◌^◌, ◌<◌, ◌≤◌, ◌≡◌, refl, List, [], ◌∷◌, ◌++◌, Bool, true, false, eqb, length}
-use Rattle.std.proofs.Common.{add-zero, zero-add, arith, ap₂, ◌∙◌, length-append, drop_of_length-le, drop-drop}
+use Rattle.std.specs.Prelude.{ℕ, ◌+◌, ◌-◌, ◌*◌, ◌^◌, ◌<◌, ◌≤◌, ◌≡◌, refl, List, [], ◌∷◌, ◌++◌, Bool, true, false, eqb, length, Ok, Err}
+use Rattle.std.proofs.Common.{add-zero, zero-add, arith, ap₂, ◌∙◌, subst, length-append, drop_of_length-le, drop-drop}
+use Rattle.std.proofs.Math.Nat.{mod-le}
 use Rattle.std.proofs.Math.Path.{sym, ap}
 use Rattle.std.proofs.Math.ListN.{drop}
-use Rattle.format.specs.declared.Fault.{Fault}
-use Rattle.format.specs.declared.Read.{Read}
-use Rattle.format.specs.declared.Read.TheVariants.{Got, No}
+use Rattle.format.specs.Answers.{Read}
+use Rattle.format.specs.declared.Refusal.{Refusal}
+use Rattle.format.specs.declared.Refusal.TheVariants.{At, Given}
 use Rattle.format.specs.Format.{Format, Bytes, pick}
 use Rattle.format.specs.Combinators.{pair, judged, via, seq, ◌then◌, number}
-use Rattle.format.specs.Laws.Seen.{seen, itself, got_at}
+use Rattle.format.specs.Laws.Seen.{seen, told_why, itself, none, got_at}
+use Rattle.format.specs.Laws.Fault.{further}
 use Rattle.format.specs.Row.{total, start_in}
 use Rattle.format.specs.Laws.Written.{Row}
-use Rattle.format.specs.Laws.Back.{back_got, back_no, seen_fits}
+use Rattle.format.specs.Laws.Back.{back_got, back_no, seen_fits, seen_stops}
 use Rattle.format.specs.Laws.Skip.{start_first, start_end, start_more, nth}
 use Rattle.kind.specs.declared.Product.{Product}
+use Rattle.text.specs.Answers.{StringRead}
+use Rattle.text.specs.Text.{string, length_of}
+use Rattle.text.specs.Laws.Seen.{text_seen, end_read, end_is}
 use Rattle.element.specs.Element.{Element, element, identifier}
 use Rattle.element.specs.Laws.Element.{named}
 use Rattle.rule.specs.Rule.{placed, separator}
 use Rattle.rule.specs.Places.{data_at, elements_bytes}
-use Rattle.fill.specs.declared.Entry.{Entry}
 use Rattle.buffer.specs.Laid.{put}
 use Rattle.buffer.specs.Laws.Laid.{put_none, put_on, put_length}
 use Rattle.fill.specs.Rows.{rows_of, element_row, element_rows, element_width}
@@ -85,7 +89,7 @@ module _ {A : Type 0} (a : ℕ → Format A) (row : ℕ → ℕ → A → List �
 abbrev pub ElementsFill : Product → List ℕ → ℕ → ℕ → ℕ → ℕ → ℕ → List ℕ → List ℕ → Read → Type 0
 ElementsFill p s at base i n k t t₁ r =
     (xs : List Element) (u : List ℕ) → Row (placed p) s 0 at xs u → length xs ≡ n → k + length (element_rows p i (base + at) xs) ≤ length t
-    → (r ≡ Got (at + elements_bytes p xs) n) × (t₁ ≡ put t k (element_rows p i (base + at) xs))
+    → (r ≡ Ok (at + elements_bytes p xs, n)) × (t₁ ≡ put t k (element_rows p i (base + at) xs))
 
 -- of them j are stored, and the next stands at q
 abbrev pub ElementsTurn : Product → List ℕ → ℕ → ℕ → ℕ → ℕ → ℕ → List ℕ → ℕ → ℕ → List ℕ → Type 0
@@ -99,16 +103,16 @@ module _ (p : Product) (s : List ℕ) (at base i n k : ℕ) (t : List ℕ) where
   elements_start xs u w m h = (start_first (placed p) at xs, record { long = refl; room = omega arith; rest = ap (λ (z : ℕ). put t z (element_rows p i (base + at) xs)) (add-zero k) })
 
   module _ (j q : ℕ) (t₁ : List ℕ) (e : ElementsTurn p s at base i n k t j q t₁) where
-    pub elements_done : n ≤ j → ElementsFill p s at base i n k t t₁ (Got q n)
+    pub elements_done : n ≤ j → ElementsFill p s at base i n k t t₁ (Ok (q, n))
     elements_done l xs u w m h =
         let b = e xs u w m h in
         (got_at (b.0 ∙ start_end (placed p) at j xs (omega arith)), filling_done b.1 (rows_done (placed p) (element_row p i) j (base + q) xs (omega arith)))
 
     module _ {r : Read} (l : j < n) (g : r ≡ seen named (placed p j) s q) where
-      pub elements_stop : {c : Fault} {o : ℕ} → r ≡ No o c → ElementsFill p s at base i n k t t₁ r
+      pub elements_stop : {why : Refusal} → r ≡ Err why → ElementsFill p s at base i n k t t₁ r
       elements_stop f xs u w m h = back_no named (placed p j) s q (nth (placed p) s at j q xs u (e xs u w m h).0 w (omega arith)).stands g f
 
-      pub elements_fill : {v o d : ℕ} {t₂ : List ℕ} → r ≡ Got o v → d ≡ data_at j (base + q) → (k + element_width * j + element_width ≤ length t₁ → t₂ ≡ put t₁ (k + element_width * j) (v ∷ i ∷ d ∷ (base + o) ∷ []))
+      pub elements_fill : {v o d : ℕ} {t₂ : List ℕ} → r ≡ Ok (o, v) → d ≡ data_at j (base + q) → (k + element_width * j + element_width ≤ length t₁ → t₂ ≡ put t₁ (k + element_width * j) (v ∷ i ∷ d ∷ (base + o) ∷ []))
           → ElementsTurn p s at base i n k t (j + 1) o t₂
       elements_fill {v} {o} {d} {t₂} f starts z xs u w m h =
           let b = e xs u w m h in
@@ -120,33 +124,37 @@ module _ (p : Product) (s : List ℕ) (at base i n k : ℕ) (t : List ℕ) where
           let st : t₂ ≡ put t₁ (k + element_width * j) (element_row p i j (base + q) x.x) = z room ∙ rw (y.0, starts, ends) in
           (omega (arith, y.1, b.0, start_more (placed p) at j xs x.ys x.x x.whole), rw ends (filling_go (element_row p i j (base + q) x.x) _ b.1 rows st (omega arith)))
 
--- a rule's start, its number and the place of its elements' rows are small
-abbrev pub Small : Entry → Type 0
-Small e = (e.start ≤ 60000) × ((e.i ≤ 256) × (e.k < 2 ^ 30))
-
 -- a number of elements below 2 ^ 16 and a place, or a refusal's place
-unfoldable pub Under : ℕ → Read → Type 0
-Under b (Got m n) = (n < 2 ^ 16) × (m ≤ b)
-Under b (No q c) = q ≤ b
+abbrev pub Under : ℕ → Read → Type 0
+Under b (Ok (m, n)) = (n < 2 ^ 16) × (m ≤ b)
+Under b (Err (At c q)) = q ≤ b
+Under b (Err (Given c q)) = q ≤ b
 
-pub under_is : {b n m : ℕ} → n < 2 ^ 16 → m ≤ b → Under b (Got m n)
-unfolding Under
-under_is h k = (h, k)
+pub under_got : {b n m : ℕ} {r : Read} → Under b r → r ≡ Ok (m, n) → (n < 2 ^ 16) × (m ≤ b)
+under_got {b} h e = subst (Under b) e h
 
-pub under_got : {b n m : ℕ} {r : Read} → Under b r → r ≡ Got m n → (n < 2 ^ 16) × (m ≤ b)
-unfolding Under
-under_got h e = rw e at h
+pub under_stop : {A : Type 0} (g : A → ℕ) (a : Format A) (s : List ℕ) (at : ℕ) {b : ℕ} {r : Read} {why : Refusal} → r ≡ seen g a s at → r ≡ Err why → at + (length s - at) ≤ b → Under b r
+unfolding seen
+under_stop g a s at {b} e h l =
+    let i = told_why at g (a.read (drop at s)) e h in
+    let k = rw i.ends at h in
+    let m = seen_stops g a s at e k in
+    rw k (omega arith)
 
-pub under_no : {b q : ℕ} {c : Fault} {r : Read} → r ≡ No q c → q ≤ b → Under b r
-unfolding Under
-under_no e h = rw e h
+-- a String's refusal, handed on
+pub under_text : (s : List ℕ) (at : ℕ) {b : ℕ} {c : StringRead} {r : Read} {why : Refusal} → c ≡ text_seen length_of string s at → c ≡ Err why → r ≡ Err why → at + (length s - at) ≤ b → Under b r
+under_text s at e h k = under_stop none string s at (end_is length_of string s at e (k ∙ sym (ap end_read h))) k
 
-pub under_off : {b q : ℕ} {c : Fault} {r : Read} → Under b r → r ≡ No q c → q ≤ b
-unfolding Under
-under_off h e = rw e at h
+-- a refusal of a part that starts at a place
+pub under_further : (a : ℕ) {b : ℕ} (at : ℕ) {r : Read} {why to : Refusal} → Under a r → r ≡ Err why → to ≡ further at why → at + a ≤ b → Under b (Err to)
+under_further a {b} at {why = why} h e f l = rw f (go why (subst (Under a) e h))
+  where
+    go : (x : Refusal) → Under a (Err x) → Under b (Err (further at x))
+    go (At c q) w = omega (arith, mod-le (at + q) (2 ^ 64))
+    go (Given c q) w = omega arith
 
 -- an identifier has 32 bits
-pub identifier_small : (p : Product) (j : ℕ) (s : List ℕ) (at : ℕ) {r : Read} {v m : ℕ} → Bytes s → r ≡ seen named (placed p j) s at → r ≡ Got m v → v < 2 ^ 32
+pub identifier_small : (p : Product) (j : ℕ) (s : List ℕ) (at : ℕ) {r : Read} {v m : ℕ} → Bytes s → r ≡ seen named (placed p j) s at → r ≡ Ok (m, v) → v < 2 ^ 32
 unfolding placed pick element identifier ◌then◌ seq via pair judged number
 identifier_small p j s at bs e h = let o = seen_fits named (placed p j) s at bs e h in rw o.1.1 (go (eqb j 0) o.0 o.1.0)
   where
@@ -154,11 +162,11 @@ identifier_small p j s at bs e h = let o = seen_fits named (placed p j) s at bs 
     go true x f = f.0.0.0
     go false x f = f.0.1.0.0.0
 
-pub two_small : (s : List ℕ) (at : ℕ) {r : Read} {v m : ℕ} → Bytes s → r ≡ seen itself (number 2) s at → r ≡ Got m v → v < 2 ^ 16
+pub two_small : (s : List ℕ) (at : ℕ) {r : Read} {v m : ℕ} → Bytes s → r ≡ seen itself (number 2) s at → r ≡ Ok (m, v) → v < 2 ^ 16
 unfolding number
 two_small s at bs e h = let o = seen_fits itself (number 2) s at bs e h in rw o.1.1 o.1.0
 
 pub under_up : {a b : ℕ} (r : Read) → Under a r → a ≤ b → Under b r
-unfolding Under
-under_up (Got m n) h l = (h.0, omega (arith, h.1))
-under_up (No q c) h l = omega arith
+under_up (Ok (m, n)) h l = (h.0, omega (arith, h.1))
+under_up (Err (At c q)) h l = omega arith
+under_up (Err (Given c q)) h l = omega arith

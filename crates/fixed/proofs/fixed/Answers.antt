@@ -1,20 +1,20 @@
 use native.Mathlib.Omega.{arith}
+use mathlib.Core.Path.{refl}
 use Rattle.format.specs.Laws.Format.{bytes_all}
-use Rattle.fixed.specs.Fixed.{fixed_fields}
-use Rattle.fixed.specs.Laws.Fixed.{no_fields, fields_say_lem}
+use Rattle.fixed.specs.Fixed.{fixed_at, fixed_fields}
+use Rattle.fixed.specs.Laws.Fixed.{fields_say_lem}
 use Rattle.asked.specs.Laws.Asked.{asked_refused, asked_absent, asked_is}
-use mathlib.Core.Path.{ap, ◌∙◌}
-use Rattle.scan.specs.Scan.{scan_says}
+use borrow.Author.Rules.{rules}
 use Rattle.fixed.proofs.fixed.Goals as goal
 
-pub returns-in_default : goal.returns-in_default
+pub returns-in_err-version : goal.returns-in_err-version
 unfolding fixed_fields
-returns-in_default c = fields_say_lem _ _ _ (asked_refused _ _ _ _ _ c.pass-c.ensures.0 c.in_default.is (c.no_fields.ensures ∙ ap no_fields (c.scan_says.ensures ∙ ap scan_says c.in_default.is)))
+returns-in_err-version c = fields_say_lem _ _ _ (search (rules, asked_refused (λ p. fixed_at) c.args.edition c.args.k c.args.s.now c.in_err-version.ensures.0 refl))
 
 pub returns-then-n-k : goal.returns-then-n-k
 unfolding fixed_fields
-returns-then-n-k c = fields_say_lem _ _ _ (asked_absent _ _ _ _ _ (bytes_all c.args.s.now c.shared_slice_known-1.given) c.pass-c.ensures.0 c.in-Is.is (omega arith))
+returns-then-n-k c = fields_say_lem _ _ _ (asked_absent _ _ _ _ (bytes_all c.args.s.now c.shared_slice_known-1.given) c.in_ok-version.ensures.0 refl (omega arith))
 
 pub returns : goal.returns
 unfolding fixed_fields
-returns c = fields_say_lem _ _ _ (asked_is _ _ _ _ _ (bytes_all c.args.s.now c.shared_slice_known-1.given) c.pass-c.ensures.0 c.in-Is.is (omega arith) (λ p h. c.fields_at.ensures p))
+returns c = fields_say_lem _ _ _ (asked_is _ _ _ _ (bytes_all c.args.s.now c.shared_slice_known-1.given) c.in_ok-version.ensures.0 refl (omega arith) (λ p h. c.fields_at.ensures p))

@@ -1,20 +1,21 @@
+use mathlib.Core.Path.{refl}
 use Rattle.fixed.specs.Laws.Fixed.{kept_1, kept_2, kept_3, kept_4, kept_5, kept_is}
 use Rattle.fixed.proofs.kept_at.Goals as goal
 
-pub returns-in_default : goal.returns-in_default
-returns-in_default c = kept_1 _ _ _ c.u32_at-a.ensures _ c.in_default.is
+pub returns-in_err-p : goal.returns-in_err-p
+returns-in_err-p c = kept_1 _ _ _ c.in_err-p.ensures _ refl
 
-pub returns-in_default-b : goal.returns-in_default-b
-returns-in_default-b c = kept_2 _ _ _ c.u32_at-a.ensures c.in-Got.is c.u32_at-b.ensures _ c.in_default-b.is
+pub returns-in_err-q : goal.returns-in_err-q
+returns-in_err-q c = kept_2 _ _ _ c.in_ok-p.ensures refl c.in_err-q.ensures _ refl
 
-pub returns-in_default-c : goal.returns-in_default-c
-returns-in_default-c c = kept_3 _ _ _ c.u32_at-a.ensures c.in-Got.is c.u32_at-b.ensures c.in-Got-b.is c.u32_at-c.ensures _ c.in_default-c.is
+pub returns-in_err-r : goal.returns-in_err-r
+returns-in_err-r c = kept_3 _ _ _ c.in_ok-p.ensures refl c.in_ok-q.ensures refl c.in_err-r.ensures _ refl
 
-pub returns-in_default-d : goal.returns-in_default-d
-returns-in_default-d c = kept_4 _ _ _ c.u32_at-a.ensures c.in-Got.is c.u32_at-b.ensures c.in-Got-b.is c.u32_at-c.ensures c.in-Got-c.is c.u32_at-d.ensures _ c.in_default-d.is
+pub returns-in_err-t : goal.returns-in_err-t
+returns-in_err-t c = kept_4 _ _ _ c.in_ok-p.ensures refl c.in_ok-q.ensures refl c.in_ok-r.ensures refl c.in_err-t.ensures _ refl
 
-pub returns-in_default-e : goal.returns-in_default-e
-returns-in_default-e c = kept_5 _ _ _ c.u32_at-a.ensures c.in-Got.is c.u32_at-b.ensures c.in-Got-b.is c.u32_at-c.ensures c.in-Got-c.is c.u32_at-d.ensures c.in-Got-d.is c.u32_at-e.ensures _ c.in_default-e.is
+pub returns-in_err-unknown5 : goal.returns-in_err-unknown5
+returns-in_err-unknown5 c = kept_5 _ _ _ c.in_ok-p.ensures refl c.in_ok-q.ensures refl c.in_ok-r.ensures refl c.in_ok-t.ensures refl c.in_err-unknown5.ensures _ refl
 
 pub returns : goal.returns
-returns c = kept_is _ _ _ c.u32_at-a.ensures c.in-Got.is c.u32_at-b.ensures c.in-Got-b.is c.u32_at-c.ensures c.in-Got-c.is c.u32_at-d.ensures c.in-Got-d.is c.u32_at-e.ensures c.in-Got-e.is
+returns c = kept_is _ _ _ c.in_ok-p.ensures refl c.in_ok-q.ensures refl c.in_ok-r.ensures refl c.in_ok-t.ensures refl c.in_ok-unknown5.ensures refl

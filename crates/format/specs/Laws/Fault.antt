@@ -1,48 +1,27 @@
--- Laws of ../Fault.antt: one number both ways; and a refusal handed on in another type.
-use Rattle.std.specs.Prelude.{ℕ, ◌+◌, ◌-◌, ◌/◌, ◌%◌, ◌≤◌, ◌<◌, ◌≡◌, refl, List, [], ◌∷◌, leb, eqb, ltb, get_or}
-use Rattle.std.proofs.Common.{arith, sym, ap, ap₂, ◌∙◌, lit<, le-leb, ne_eqb, lt-ltb, le-ltb}
-use Rattle.std.proofs.lemmas.Bool.{lt-leb}
+-- Laws of ../Fault.antt: one number both ways; and a refusal handed on as another.
+use Rattle.std.specs.Prelude.{ℕ, ◌+◌, ◌-◌, ◌/◌, ◌%◌, ◌^◌, ◌<◌, ◌≡◌, refl, List, [], ◌∷◌, eqb, ltb, get_or, Result, Ok, Err}
+use Rattle.std.proofs.Common.{arith, sym, ap, ap₂, ◌∙◌, lit<, ne_eqb, lt-ltb, le-ltb}
 use Rattle.format.specs.declared.Fault.{Fault}
 use Rattle.format.specs.declared.Fault.TheVariants.{Edition, Long, Cut, Mark, Version, Count, Form, Field, Unknown, Foreign, Date, Size, Over, Table, Stated, Absent, Text, Rules, Large, Room, Full, Last, Offset}
-use Rattle.format.specs.declared.Outcome.{Outcome}
-use Rattle.format.specs.declared.Outcome.TheVariants.{Done, No, Given}
-use Rattle.format.specs.declared.Read.{Read}
-use Rattle.format.specs.declared.Read.TheVariants as Read
+use Rattle.format.specs.Answers.{Outcome}
+use Rattle.format.specs.declared.Refusal.{Refusal}
+use Rattle.format.specs.declared.Refusal.TheVariants.{At, Given}
 use Rattle.format.specs.Format.{pick}
-use Rattle.format.specs.Fault.{number_of, code_of, place_of, packed}
+use Rattle.format.specs.Fault.{number_of, in_given, code_of, place_of, packed}
 
--- ---- a refusal handed on, where the answer is of another type
+-- ---- a refusal handed on as another
 
--- what a reader says: where it came to an end, or its refusal
-abbrev pub end_says : Read → Outcome
-end_says (Read.Got n v) = Done n
-end_says (Read.No p c) = No c p
+pub given_ok : {A : Type 0} (r : Result A Refusal) {u : Result A Refusal} {x : A} → u ≡ in_given r → u ≡ Ok x → r ≡ Ok x
+given_ok (Ok y) e h = sym e ∙ h
+given_ok (Err (At c p)) e h = cc
+given_ok (Err (Given c p)) e h = cc
 
--- and a refusal as a reader's
-abbrev pub no_read : Outcome → Read
-no_read (Done n) = Read.Got n 0
-no_read (No c p) = Read.No p c
-no_read (Given c p) = Read.No p c
-
--- "the same fault in the second deck or in given element data"
-abbrev pub in_given : Outcome → Outcome
-in_given (Done n) = Done n
-in_given (No c p) = Given c p
-in_given (Given c p) = Given c p
+-- a refusal of a part that starts at a place, by its place in the whole: of 64 bits
+abbrev pub further : ℕ → Refusal → Refusal
+further by (At c p) = At c ((by + p) % 2 ^ 64)
+further by (Given c p) = Given c p
 
 -- ---- one number, both ways
-
--- the number of row r of the table: they follow one another up to 22
-unfoldable pub row_number : ℕ → ℕ
-row_number r = pick (leb r 22) r 29
-
-pub row_low : {r : ℕ} → r ≤ 22 → row_number r ≡ r
-unfolding row_number pick
-row_low {r} h = rw (le-leb r 22 h)
-
-pub row_high : {r : ℕ} → 22 < r → row_number r ≡ 29
-unfolding row_number pick
-row_high {r} h = rw (lt-leb r 22 h)
 
 -- the fault of a number, and the outcome of a code and a place
 abbrev pub faults : List Fault
@@ -52,7 +31,7 @@ abbrev pub fault_of : ℕ → Fault
 fault_of n = pick (eqb n 29) Offset (get_or faults (n - 1) Edition)
 
 abbrev pub outcome_of : ℕ → ℕ → Outcome
-outcome_of n q = pick (eqb n 0) (Done q) (pick (ltb n 32) (No (fault_of n) q) (Given (fault_of (n - 32)) q))
+outcome_of n q = pick (eqb n 0) (Ok q) (pick (ltb n 32) (Err (At (fault_of n) q)) (Err (Given (fault_of (n - 32)) q)))
 
 -- every number of the table is from 1 to 31, and is of one fault
 pub record Numbered (c : Fault) : Type 0 where
@@ -90,9 +69,9 @@ pub number_small : (c : Fault) → number_of c < 32
 number_small c = (numbered c).small
 
 pub code_small : (o : Outcome) → code_of o < 64
-code_small (Done n) = omega arith
-code_small (No c q) = omega (arith, (numbered c).small)
-code_small (Given c q) = omega (arith, (numbered c).small)
+code_small (Ok n) = omega arith
+code_small (Err (At c q)) = omega (arith, (numbered c).small)
+code_small (Err (Given c q)) = omega (arith, (numbered c).small)
 
 -- the code is the low 8 bits, the place the rest
 pub packed_code : (o : Outcome) → packed o % 256 ≡ code_of o
@@ -104,9 +83,9 @@ packed_place o = omega (arith, code_small o)
 -- an outcome is its code and its place
 pub outcome_is : (o : Outcome) → outcome_of (code_of o) (place_of o) ≡ o
 unfolding pick
-outcome_is (Done n) = refl
-outcome_is (No c q) = let w = numbered c in rw (ne_eqb (number_of c) 0 (λ e. omega (arith, w.some)), lt-ltb (number_of c) 32 w.small, w.fault)
-outcome_is (Given c q) =
+outcome_is (Ok n) = refl
+outcome_is (Err (At c q)) = let w = numbered c in rw (ne_eqb (number_of c) 0 (λ e. omega (arith, w.some)), lt-ltb (number_of c) 32 w.small, w.fault)
+outcome_is (Err (Given c q)) =
     let w = numbered c in
     let e : number_of c + 32 - 32 ≡ number_of c = omega arith in
     rw (ne_eqb (number_of c + 32) 0 (λ e. omega arith), le-ltb (number_of c + 32) 32 (omega arith), e, w.fault)

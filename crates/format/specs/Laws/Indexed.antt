@@ -3,14 +3,15 @@ use Prim.Native.Nat.{ℕ, zero, suc, ◌+◌, ◌-◌, ◌*◌, ◌^◌, ◌≤�
 use Rattle.std.proofs.Math.Nat.{add-zero, zero-add, mul-suc}
 use native.Mathlib.Omega.{arith}
 use Rattle.std.proofs.Math.Path.{◌≡◌, refl, sym, ap}
-use Rattle.std.proofs.Common.{◌∙◌}
+use Rattle.std.proofs.Common.{◌∙◌, Ok, Err}
 use Rattle.std.specs.Prelude.{Bool, true, false, eqb, take}
 use mathlib.Core.List.{List, [], ◌∷◌, ◌++◌}
 use Rattle.std.proofs.Math.ListN.{length, drop, length-drop}
 use Rattle.std.proofs.Math.Seq.{drop-drop}
 use Rattle.format.specs.declared.Fault.{Fault}
-use Rattle.format.specs.declared.Read.{Read}
-use Rattle.format.specs.declared.Read.TheVariants.{Got, No}
+use Rattle.format.specs.Answers.{Read}
+use Rattle.format.specs.declared.Refusal.{Refusal}
+use Rattle.format.specs.declared.Refusal.TheVariants.{At}
 use Rattle.format.specs.Format.{got, refused, mapped, pick, Format}
 use Rattle.format.specs.ReadWrite.{value, spelt, each_read}
 use Rattle.format.specs.Combinators.{number, each}
@@ -18,7 +19,7 @@ use Rattle.format.specs.Row.{total}
 use Rattle.format.specs.Index.{onward, values_read, indexed_read, index_write}
 use Rattle.format.specs.Indexed.{indexed}
 use Rattle.format.specs.Laws.Index.{offsets_there, indexed_long}
-use Rattle.format.specs.Laws.Seen.{told, seen, itself, unlike, told_got, told_no, told_mapped}
+use Rattle.format.specs.Laws.Seen.{told, seen, itself, ok_parts, unlike, told_got, told_why, told_mapped}
 use Rattle.format.specs.Laws.ReadWrite.{value_spelt}
 use Rattle.format.specs.Laws.Rows.{added, told_added, number_there}
 
@@ -31,11 +32,11 @@ module _ {A : Type 0} (g : A → ℕ) (w origin : ℕ) (c : Fault) (a : ℕ → 
   unfoldable pub telling : ℕ → ℕ → Read
   telling i p = told origin (total g) (values_read w origin c a (drop origin s) i (n - i) (p - origin))
 
-  pub index_stop : (h : List ℕ → ℕ) {r : Read} {d : Fault} {q : ℕ} → r ≡ seen h (each (λ i. number w) 0 n) s origin → r ≡ No q d → r ≡ seen (total g) (indexed w origin c a n) s origin
+  pub index_stop : (h : List ℕ → ℕ) {r : Read} {why : Refusal} → r ≡ seen h (each (λ i. number w) 0 n) s origin → r ≡ Err why → r ≡ seen (total g) (indexed w origin c a n) s origin
   unfolding seen each indexed indexed_read onward told
-  index_stop h e k = let o = told_no origin h (each_read (λ i. number w) 0 n (drop origin s)) e k in rw (o.is, zero-add, ← o.ends) k
+  index_stop h e k = let o = told_why origin h (each_read (λ i. number w) 0 n (drop origin s)) e k in rw (o.is, zero-add, ← o.ends) k
 
-  pub index_start : (h : List ℕ → ℕ) {r : Read} {m u : ℕ} → r ≡ seen h (each (λ i. number w) 0 n) s origin → r ≡ Got m u → (m ≡ origin + w * n) × ((w * n ≤ length s - origin) × (telling 0 m ≡ seen (total g) (indexed w origin c a n) s origin))
+  pub index_start : (h : List ℕ → ℕ) {r : Read} {m u : ℕ} → r ≡ seen h (each (λ i. number w) 0 n) s origin → r ≡ Ok (m, u) → (m ≡ origin + w * n) × ((w * n ≤ length s - origin) × (telling 0 m ≡ seen (total g) (indexed w origin c a n) s origin))
   unfolding seen each indexed indexed_read onward telling
   index_start h {m = m} e k =
       let o = told_got origin h (each_read (λ i. number w) 0 n (drop origin s)) e k in
@@ -45,7 +46,7 @@ module _ {A : Type 0} (g : A → ℕ) (w origin : ℕ) (c : Fault) (a : ℕ → 
       (omega (arith, o.ends, t.0), (omega (arith, t.1, length-drop origin s), rw (o.is, z, q)))
 
   module _ (i p : ℕ) (l : origin ≤ p) where
-    pub values_done : n ≤ i → telling i p ≡ Got p 0
+    pub values_done : n ≤ i → telling i p ≡ Ok (p, 0)
     unfolding telling values_read told total
     values_done h =
         let z : n - i ≡ 0 = omega arith in
@@ -60,19 +61,19 @@ module _ {A : Type 0} (g : A → ℕ) (w origin : ℕ) (c : Fault) (a : ℕ → 
         let d : drop (p - origin) (drop origin s) ≡ drop p s = drop-drop (p - origin) origin s ∙ ap (λ (m : ℕ). drop m s) q in
         rw (z, q, d)
 
-    pub values_off : i < n → offset_is w origin s i p ≡ false → telling i p ≡ No (origin + w * i) c
+    pub values_off : i < n → offset_is w origin s i p ≡ false → telling i p ≡ Err (At c (origin + w * i))
     unfolding pick told
     values_off h b = turn h ∙ rw b
 
     module _ (b : offset_is w origin s i p ≡ true) (h : i < n) {r : Read} (e : r ≡ seen g (a i) s p) where
-      pub values_stop : {d : Fault} {q : ℕ} → r ≡ No q d → telling i p ≡ r
+      pub values_stop : {why : Refusal} → r ≡ Err why → telling i p ≡ r
       unfolding seen pick onward told
       values_stop k =
-          let o = told_no p g ((a i).read (drop p s)) e k in
+          let o = told_why p g ((a i).read (drop p s)) e k in
           let q : origin + (p - origin + o.o) ≡ p + o.o = omega arith in
           turn h ∙ rw (b, o.is, q, ← o.ends) (sym k)
 
-      pub values_go : {q v : ℕ} → r ≡ Got q v → (p ≤ q) × (telling i p ≡ added v (telling (i + 1) q))
+      pub values_go : {q v : ℕ} → r ≡ Ok (q, v) → (p ≤ q) × (telling i p ≡ added v (telling (i + 1) q))
       unfolding seen pick onward telling total
       values_go {q} {v} k =
           let o = told_got p g ((a i).read (drop p s)) e k in
@@ -87,21 +88,21 @@ indexed_many w origin c a n s xs m e = indexed_long w origin c a n s xs m e
 
 -- an offset as the code reads it
 module _ (w origin : ℕ) (s : List ℕ) (i : ℕ) {o : Read} (e : o ≡ seen itself (number w) s (origin + w * i)) where
-  offset_there : w * (i + 1) ≤ length s - origin → o ≡ Got (origin + w * i + w) (value (take w (drop (w * i) (drop origin s))))
+  offset_there : w * (i + 1) ≤ length s - origin → o ≡ Ok (origin + w * i + w, value (take w (drop (w * i) (drop origin s))))
   unfolding seen told
   offset_there h =
       let d = drop-drop (w * i) origin s in
       let t : w ≤ length (drop (w * i) (drop origin s)) = omega (arith, length-drop (w * i) (drop origin s), length-drop origin s, mul-suc w i) in
       e ∙ rw (← d, number_there w (drop (w * i) (drop origin s)) t)
 
-  pub offset_never : {B : Type 0} {d : Fault} {q : ℕ} → w * (i + 1) ≤ length s - origin → o ≡ No q d → B
+  pub offset_never : {B : Type 0} {why : Refusal} → w * (i + 1) ≤ length s - origin → o ≡ Err why → B
   offset_never h k = unlike (offset_there h) k
 
-  pub offset_is_lem : (p : ℕ) {m x : ℕ} → w * (i + 1) ≤ length s - origin → p < 256 ^ w → o ≡ Got m x → eqb x p ≡ offset_is w origin s i p
+  pub offset_is_lem : (p : ℕ) {m x : ℕ} → w * (i + 1) ≤ length s - origin → p < 256 ^ w → o ≡ Ok (m, x) → eqb x p ≡ offset_is w origin s i p
   unfolding offset_is
   offset_is_lem p {m} {x} h l k =
-      let u : Got m x ≡ Got (origin + w * i + w) (value (take w (drop (w * i) (drop origin s)))) = sym k ∙ offset_there h in
-      let y : x ≡ value (take w (drop (w * i) (drop origin s))) = cc in
+      let u : ◌≡◌ {A = Read} (Ok (m, x)) (Ok (origin + w * i + w, value (take w (drop (w * i) (drop origin s))))) = sym k ∙ offset_there h in
+      let y : x ≡ value (take w (drop (w * i) (drop origin s))) = (ok_parts u).1 in
       rw (value_spelt w p l, ← y)
 
 -- an offset of no bytes is every place

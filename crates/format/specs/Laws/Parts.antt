@@ -1,15 +1,16 @@
 -- Reading from a part of a slice that starts in its middle is reading at that place of the slice.
-use Rattle.std.specs.Prelude.{ℕ, ◌+◌, ◌-◌, ◌≤◌, ◌≡◌, length, take, drop}
+use Rattle.std.specs.Prelude.{ℕ, ◌+◌, ◌^◌, ◌<◌, ◌-◌, ◌≤◌, ◌≡◌, length, take, drop, Ok, Err}
 use Rattle.std.proofs.Math.Nat.{zero-add}
-use Rattle.std.proofs.Common.{arith, ◌∙◌, take_all}
+use Rattle.std.proofs.Common.{arith, mod-eq_of_lt, ◌∙◌, take_all}
 use Rattle.std.proofs.Math.Path.{ap}
 use mathlib.Core.List.{List}
 use Rattle.std.proofs.Math.ListN.{length-drop}
-use Rattle.format.specs.declared.Fault.{Fault}
-use Rattle.format.specs.declared.Read.{Read}
-use Rattle.format.specs.declared.Read.TheVariants.{Got, No}
+use Rattle.format.specs.Answers.{Read}
+use Rattle.format.specs.declared.Refusal.{Refusal}
+use Rattle.format.specs.declared.Refusal.TheVariants.{At}
 use Rattle.format.specs.Format.{end_of, Format}
-use Rattle.format.specs.Laws.Seen.{told, seen, told_got, told_no}
+use Rattle.format.specs.Laws.Fault.{further}
+use Rattle.format.specs.Laws.Seen.{told, seen, told_got, told_why}
 use Rattle.format.specs.Laws.Written.{Stands}
 
 -- the part of a list from a place on, as the code lends it
@@ -28,19 +29,19 @@ module _ {A : Type 0} (g : A → ℕ) (a : Format A) (s : List ℕ) (at : ℕ) {
   unfolding seen
   whole e = e ∙ ap (λ (t : List ℕ). told 0 g (a.read t)) (part_is s at)
 
-  pub part_got : {v n : ℕ} → r ≡ seen g a (part s at) 0 → r ≡ Got n v → Got (at + n) v ≡ seen g a s at
+  pub part_got : {v n : ℕ} → r ≡ seen g a (part s at) 0 → r ≡ Ok (n, v) → Ok (at + n, v) ≡ seen g a s at
   unfolding seen told
-  part_got {v = v} e h = let i = told_got 0 g (a.read (drop at s)) (whole e) h in rw (i.is, ← i.tells) (ap (λ (m : ℕ). Got (at + m) v) (i.ends ∙ zero-add i.n))
-
-  pub part_no : {c : Fault} {p : ℕ} → r ≡ seen g a (part s at) 0 → r ≡ No p c → No (at + p) c ≡ seen g a s at
-  unfolding seen told
-  part_no {c = c} e h = let i = told_no 0 g (a.read (drop at s)) (whole e) h in rw i.is (ap (λ (m : ℕ). No (at + m) c) (i.ends ∙ zero-add i.o))
+  part_got {v = v} e h = let i = told_got 0 g (a.read (drop at s)) (whole e) h in rw (i.is, ← i.tells) (ap (λ (m : ℕ). Ok (at + m, v)) (i.ends ∙ zero-add i.n))
 
   -- and it ends, or is refused, within the slice
-  pub part_ends : {v n : ℕ} → at ≤ length s → r ≡ seen g a (part s at) 0 → r ≡ Got n v → at + n ≤ length s
+  pub part_ends : {v n : ℕ} → at ≤ length s → r ≡ seen g a (part s at) 0 → r ≡ Ok (n, v) → at + n ≤ length s
   unfolding end_of
   part_ends l e h = let i = told_got 0 g (a.read (drop at s)) (whole e) h in omega (arith, i.ends, rw i.is at (a.inside (drop at s)), length-drop at s)
 
-  pub part_stops : {c : Fault} {p : ℕ} → at ≤ length s → r ≡ seen g a (part s at) 0 → r ≡ No p c → at + p ≤ length s
-  unfolding end_of
-  part_stops l e h = let i = told_no 0 g (a.read (drop at s)) (whole e) h in omega (arith, i.ends, rw i.is at (a.inside (drop at s)), length-drop at s)
+  pub part_no : {why to : Refusal} → at ≤ length s → length s < 2 ^ 64 → r ≡ seen g a (part s at) 0 → r ≡ Err why → to ≡ further at why → Err to ≡ seen g a s at
+  unfolding seen told end_of
+  part_no {to = to} l m e h f =
+      let i = told_why 0 g (a.read (drop at s)) (whole e) h in
+      let p : at + (0 + i.o) < 2 ^ 64 = omega (arith, rw i.is at (a.inside (drop at s)), length-drop at s) in
+      let w : to ≡ At i.c (at + i.o) = f ∙ ap (further at) i.ends ∙ rw (mod-eq_of_lt p, zero-add) in
+      rw (i.is, w)

@@ -1,7 +1,7 @@
--- Rows as the code reads them: one value after the other, by the set `running`; a row of numbers, all at once.
+-- Rows as the code reads them: one value after the other; a row of numbers, all at once.
 use Prim.Native.Nat.{ℕ, zero, suc, ◌+◌, ◌-◌, ◌*◌, ◌≤◌, ◌<◌}
 use Rattle.std.proofs.Math.Nat.{add-zero, mul-suc}
-use Rattle.std.proofs.Common.{zero-add, add_assoc, mul-zero, ◌∙◌, le-leb}
+use Rattle.std.proofs.Common.{zero-add, add_assoc, mul-zero, ◌∙◌, le-leb, Ok, Err}
 use native.Mathlib.Omega.{arith}
 use Rattle.std.proofs.Math.Decide.{dec_lt}
 use Rattle.std.specs.Prelude.{◌≡◌, length, take}
@@ -10,10 +10,10 @@ use mathlib.Core.List.{List, [], ◌∷◌}
 use Rattle.std.proofs.Math.ListN.{drop, length-drop}
 use Rattle.std.proofs.Math.Seq.{drop-drop}
 use Rattle.std.proofs.lemmas.Bool.{lt-leb}
-use Rattle.format.specs.declared.Fault.{Fault}
 use Rattle.format.specs.declared.Fault.TheVariants.{Cut}
-use Rattle.format.specs.declared.Read.{Read}
-use Rattle.format.specs.declared.Read.TheVariants.{Got, No}
+use Rattle.format.specs.Answers.{Read}
+use Rattle.format.specs.declared.Refusal.{Refusal}
+use Rattle.format.specs.declared.Refusal.TheVariants.{At}
 use Rattle.format.specs.Format.{Answer, got, refused, shift, mapped, and_then, pick, Format}
 use Rattle.format.specs.Laws.Format.{went, mapped_got}
 use Rattle.format.specs.ReadWrite.{number_read, value, each_read}
@@ -29,15 +29,15 @@ module _ {A : Type 0} (h : List A → ℕ) (a : ℕ → Format A) (s : List ℕ)
   unfolding seen each each_read rest_of
   next l = let e : n - i ≡ suc (n - (i + 1)) = omega arith in ap (λ (k : ℕ). told at h (each_read a i k (drop at s))) e
 
-  row_end : n ≤ i → seen h (each a i (n - i)) s at ≡ Got at (h [])
+  row_end : n ≤ i → seen h (each a i (n - i)) s at ≡ Ok (at, h [])
   unfolding seen each each_read told
   row_end l = let z : n - i ≡ 0 = omega arith in ap (λ (k : ℕ). told at h (each_read a i k (drop at s))) z ∙ rw add-zero
 
-  row_stop : (g : A → ℕ) {r : Read} {c : Fault} {p : ℕ} → i < n → r ≡ seen g (a i) s at → r ≡ No p c → r ≡ seen h (each a i (n - i)) s at
+  row_stop : (g : A → ℕ) {r : Read} {why : Refusal} → i < n → r ≡ seen g (a i) s at → r ≡ Err why → r ≡ seen h (each a i (n - i)) s at
   unfolding seen
   row_stop g l e k = on_stop h ((a i).read (drop at s)) rest_of at g e k ∙ sym (next l)
 
-  row_go : (g : A → ℕ) {r : Read} {v p : ℕ} → i < n → r ≡ seen g (a i) s at → r ≡ Got p v
+  row_go : (g : A → ℕ) {r : Read} {v p : ℕ} → i < n → r ≡ seen g (a i) s at → r ≡ Ok (p, v)
       → (x : A) × ((v ≡ g x) × (seen (λ xs. h (x ∷ xs)) (each a (i + 1) (n - (i + 1))) s p ≡ seen h (each a i (n - i)) s at))
   unfolding seen each rest_of and_then
   row_go g {v = v} {p = p} l e k =
@@ -53,35 +53,30 @@ module _ {A : Type 0} (h : List A → ℕ) (a : ℕ → Format A) (s : List ℕ)
         ),
       )
 
--- nothing is told of the row: the set `running`
+-- nothing is told of the row
 module _ {A : Type 0} (a : ℕ → Format A) (s : List ℕ) (n i at : ℕ) {whole : Read} where
-  pub run_done : seen none (each a i (n - i)) s at ≡ whole → n ≤ i → Got at 0 ≡ whole
+  pub run_done : seen none (each a i (n - i)) s at ≡ whole → n ≤ i → Ok (at, 0) ≡ whole
   run_done w l = sym (row_end none a s n i at l) ∙ w
 
-  pub run_stop : (g : A → ℕ) {r : Read} {c : Fault} {p : ℕ} → seen none (each a i (n - i)) s at ≡ whole → i < n → r ≡ seen g (a i) s at → r ≡ No p c → r ≡ whole
+  pub run_stop : (g : A → ℕ) {r : Read} {why : Refusal} → seen none (each a i (n - i)) s at ≡ whole → i < n → r ≡ seen g (a i) s at → r ≡ Err why → r ≡ whole
   run_stop g w l e k = row_stop none a s n i at g l e k ∙ w
 
-  pub run_go : (g : A → ℕ) {r : Read} {v p : ℕ} → seen none (each a i (n - i)) s at ≡ whole → i < n → r ≡ seen g (a i) s at → r ≡ Got p v
+  pub run_go : (g : A → ℕ) {r : Read} {v p : ℕ} → seen none (each a i (n - i)) s at ≡ whole → i < n → r ≡ seen g (a i) s at → r ≡ Ok (p, v)
       → seen none (each a (i + 1) (n - (i + 1))) s p ≡ whole
   run_go g w l e k = (row_go none a s n i at g l e k).1.1 ∙ w
 
-pub run_start : {A : Type 0} (a : ℕ → Format A) (s : List ℕ) (n at : ℕ) → seen none (each a 0 (n - 0)) s at ≡ seen none (each a 0 n) s at
-run_start a s n at = let z : n - 0 ≡ n = omega arith in ap (λ (k : ℕ). seen none (each a 0 k) s at) z
-
-pub ruleset running = (run_start, run_stop, run_go, run_done)
-
 -- an answer that tells t more
 abbrev pub added : ℕ → Read → Read
-added t (Got m v) = Got m (t + v)
-added t (No p c) = No p c
+added t (Ok (m, v)) = Ok (m, t + v)
+added t (Err why) = Err why
 
 pub added_none : (r : Read) → added 0 r ≡ r
-added_none (Got m v) = rw zero-add
-added_none (No p c) = refl
+added_none (Ok (m, v)) = rw zero-add
+added_none (Err why) = refl
 
 pub added_twice : (t v : ℕ) (r : Read) → added t (added v r) ≡ added (t + v) r
-added_twice t v (Got m w) = rw add_assoc
-added_twice t v (No p c) = refl
+added_twice t v (Ok (m, w)) = rw add_assoc
+added_twice t v (Err why) = refl
 
 pub told_added : {A : Type 0} (p v : ℕ) (h : A → ℕ) (q : Answer A) → told p (λ x. v + h x) q ≡ added v (told p h q)
 unfolding told
@@ -111,7 +106,7 @@ pub row_length : {A : Type 0} (a : ℕ → Format A) (i n : ℕ) (t : List ℕ) 
 unfolding each
 row_length a i n t xs m e = read_long a i n t xs m e
 
-pub row_long : {A : Type 0} (a : ℕ → Format A) (i n : ℕ) (s : List ℕ) (at : ℕ) {r : Read} {v m : ℕ} → r ≡ seen none (each a i n) s at → r ≡ Got m v → Got m n ≡ seen length (each a i n) s at
+pub row_long : {A : Type 0} (a : ℕ → Format A) (i n : ℕ) (s : List ℕ) (at : ℕ) {r : Read} {v m : ℕ} → r ≡ seen none (each a i n) s at → r ≡ Ok (m, v) → Ok (m, n) ≡ seen length (each a i n) s at
 unfolding seen each told
 row_long a i n s at e h =
     let o = told_got at none (each_read a i n (drop at s)) e h in
@@ -163,10 +158,10 @@ module _ (k : ℕ) where
       ]
 
   module _ (s : List ℕ) (p n : ℕ) where
-    pub number_row : k * n ≤ length s - p → Got (p + k * n) n ≡ seen length (each (λ i. number k) 0 n) s p
+    pub number_row : k * n ≤ length s - p → Ok (p + k * n, n) ≡ seen length (each (λ i. number k) 0 n) s p
     unfolding seen each told
     number_row h = let r = row_there 0 n (drop p s) (omega (arith, length-drop p s)) in rw (r.is, r.long)
 
-    pub row_no : length s - p < k * n → (q : ℕ) × (No q Cut ≡ seen length (each (λ i. number k) 0 n) s p)
+    pub row_no : length s - p < k * n → (q : ℕ) × (Err (At Cut q) ≡ seen length (each (λ i. number k) 0 n) s p)
     unfolding seen each told
     row_no h = let r = row_cut 0 n (drop p s) (omega (arith, length-drop p s)) in (p + r.place, rw r.is)

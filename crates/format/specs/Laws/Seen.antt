@@ -1,5 +1,5 @@
--- What the code says of a format at a place of a slice, and the laws by which its readers go: `reading` for one after the other, `running` for a row.
-use Rattle.std.specs.Prelude.{ℕ, ◌+◌, ◌-◌, ◌*◌, ◌/◌, ◌%◌, ◌^◌, ◌≤◌, ◌<◌, ◌≡◌, Bool, true, false, List, take, drop, leb, eqb}
+-- What the code says of a format at a place of a slice, and the laws by which its readers go, one after the other: the set `reading`.
+use Rattle.std.specs.Prelude.{ℕ, ◌+◌, ◌-◌, ◌*◌, ◌/◌, ◌%◌, ◌^◌, ◌≤◌, ◌<◌, ◌≡◌, Bool, true, false, List, take, drop, leb, eqb, Ok, Err}
 use Rattle.std.proofs.Common.{add_assoc, add-zero, mod-eq_of_lt, arith, ◌∙◌, drop-drop, length-take-le}
 use Rattle.std.proofs.Math.Nat.{add-mul-mod_self_left, mul-div_right}
 use Rattle.std.proofs.Math.Path.{refl, sym, ap}
@@ -7,8 +7,9 @@ use Rattle.std.proofs.Math.ListN.{length, length-drop}
 use borrow.Author.Tests.{leb-true, lt-leb, le-leb, eq-eqb, ne_eqb}
 use Rattle.format.specs.declared.Fault.{Fault}
 use Rattle.format.specs.declared.Fault.TheVariants.{Cut, Count, Field}
-use Rattle.format.specs.declared.Read.{Read}
-use Rattle.format.specs.declared.Read.TheVariants.{Got, No}
+use Rattle.format.specs.Answers.{Read}
+use Rattle.format.specs.declared.Refusal.{Refusal}
+use Rattle.format.specs.declared.Refusal.TheVariants.{At}
 use Rattle.format.specs.Format.{Answer, got, refused, shift, mapped, and_then, pick, Format, Bytes}
 use Rattle.format.specs.Laws.Format.{bytes_drop, bytes_take, apart}
 use Rattle.format.specs.ReadWrite.{pair_read, judge_of, judge, home, number_read, within, bit, value}
@@ -17,8 +18,8 @@ use Rattle.format.specs.Combinators.{pair, seq, ◌then◌, judged, via, at_star
 
 -- an answer as the code gives it: what f tells of the value, and the place past it
 unfoldable pub told : {A : Type 0} → ℕ → (A → ℕ) → Answer A → Read
-told at f (got x n) = Got (at + n) (f x)
-told at f (refused c p) = No (at + p) c
+told at f (got x n) = Ok (at + n, f x)
+told at f (refused c p) = Err (At c (at + p))
 
 -- what reading a at a place finds
 unfoldable pub seen : {A : Type 0} → (A → ℕ) → Format A → List ℕ → ℕ → Read
@@ -34,12 +35,27 @@ none x = 0
 -- ---- an answer, from what the code says of it
 
 -- no place was refused
-pub unlike : {B : Type 0} {r : Read} {v m p : ℕ} {c : Fault} → r ≡ Got m v → r ≡ No p c → B
+abbrev read_as : ℕ → ℕ → Read
+read_as m v = Ok (m, v)
+
+-- the two of a reading, each told apart
+abbrev end_in : Read → ℕ
+end_in (Ok (m, v)) = m
+end_in (Err why) = 0
+
+abbrev value_in : Read → ℕ
+value_in (Ok (m, v)) = v
+value_in (Err why) = 0
+
+pub ok_parts : {m v n w : ℕ} → ◌≡◌ {A = Read} (Ok (m, v)) (Ok (n, w)) → (m ≡ n) × (v ≡ w)
+ok_parts e = (ap end_in e, ap value_in e)
+
+pub unlike : {B : Type 0} {r : Read} {v m : ℕ} {why : Refusal} → r ≡ Ok (m, v) → r ≡ Err why → B
 unlike e h = absurd (let z : ◌≡◌ {A = ℕ} 0 1 = cc in omega arith)
 
 -- the same value, ending at the same place
-pub got_at : {v a b : ℕ} → a ≡ b → Got a v ≡ Got b v
-got_at {v} e = ap (λ (p : ℕ). Got p v) e
+pub got_at : {v a b : ℕ} → a ≡ b → ◌≡◌ {A = Read} (Ok (a, v)) (Ok (b, v))
+got_at {v} e = ap (λ (p : ℕ). read_as p v) e
 
 pub record Valued {A : Type 0} (at : ℕ) (f : A → ℕ) (q : Answer A) (v m : ℕ) : Type 0 where
   pub x : A
@@ -48,17 +64,28 @@ pub record Valued {A : Type 0} (at : ℕ) (f : A → ℕ) (q : Answer A) (v m : 
   pub tells : v ≡ f x
   pub ends : m ≡ at + n
 
-pub told_got : {A : Type 0} (at : ℕ) (f : A → ℕ) (q : Answer A) {r : Read} {v m : ℕ} → r ≡ told at f q → r ≡ Got m v → Valued at f q v m
+pub told_got : {A : Type 0} (at : ℕ) (f : A → ℕ) (q : Answer A) {r : Read} {v m : ℕ} → r ≡ told at f q → r ≡ Ok (m, v) → Valued at f q v m
 unfolding told
-told_got at f (got x n) e h = record { x = x; n = n; is = refl; tells = (cc); ends = (cc) }
+told_got at f (got x n) e h = let w = ok_parts (sym h ∙ e) in record { x = x; n = n; is = refl; tells = w.1; ends = w.0 }
 told_got at f (refused d o) e h = unlike h e
+
+pub record Stopped {A : Type 0} (at : ℕ) (q : Answer A) (why : Refusal) : Type 0 where
+  pub c : Fault
+  pub o : ℕ
+  pub is : q ≡ refused c o
+  pub ends : why ≡ At c (at + o)
+
+pub told_why : {A : Type 0} (at : ℕ) (f : A → ℕ) (q : Answer A) {r : Read} {why : Refusal} → r ≡ told at f q → r ≡ Err why → Stopped at q why
+unfolding told
+told_why at f (got x n) e h = unlike e h
+told_why at f (refused d o) e h = record { c = d; o = o; is = refl; ends = (cc) }
 
 pub record Faulty {A : Type 0} (at : ℕ) (q : Answer A) (c : Fault) (p : ℕ) : Type 0 where
   pub o : ℕ
   pub is : q ≡ refused c o
   pub ends : p ≡ at + o
 
-pub told_no : {A : Type 0} (at : ℕ) (f : A → ℕ) (q : Answer A) {r : Read} {c : Fault} {p : ℕ} → r ≡ told at f q → r ≡ No p c → Faulty at q c p
+pub told_no : {A : Type 0} (at : ℕ) (f : A → ℕ) (q : Answer A) {r : Read} {c : Fault} {p : ℕ} → r ≡ told at f q → r ≡ Err (At c p) → Faulty at q c p
 unfolding told
 told_no at f (got x n) e h = unlike e h
 told_no at f (refused d o) e h = record { o = o; is = (cc); ends = (cc) }
@@ -77,8 +104,8 @@ told_mapped at g h (refused c p) = refl
 
 -- nothing is told
 abbrev pub told_nothing : Read → Read
-told_nothing (Got n v) = Got n 0
-told_nothing (No p c) = No p c
+told_nothing (Ok (n, v)) = Ok (n, 0)
+told_nothing (Err why) = Err why
 
 module _ {A : Type 0} (f : A → ℕ) (a : Format A) (s : List ℕ) (at : ℕ) {r : Read} where
   pub untold_is : {x : Read} → r ≡ seen f a s at → x ≡ told_nothing r → x ≡ seen none a s at
@@ -90,23 +117,23 @@ module _ {A : Type 0} (f : A → ℕ) (a : Format A) (s : List ℕ) (at : ℕ) {
       go (refused c p) = refl
 
   -- one thing is told, whatever the value
-  pub told_is : (g : A → ℕ) {out : Read} {v w m : ℕ} → r ≡ seen f a s at → r ≡ Got m v → out ≡ Got m w → ((x : A) → w ≡ g x) → out ≡ seen g a s at
+  pub told_is : (g : A → ℕ) {out : Read} {v w m : ℕ} → r ≡ seen f a s at → r ≡ Ok (m, v) → out ≡ Ok (m, w) → ((x : A) → w ≡ g x) → out ≡ seen g a s at
   unfolding seen told
   told_is g e h o t = let i = told_got at f (a.read (drop at s)) e h in rw (i.is, ← t i.x, ← i.ends) o
 
   -- a refusal is the same, whatever is told
-  pub refused_is : (g : A → ℕ) {c : Fault} {p : ℕ} → r ≡ seen f a s at → r ≡ No p c → r ≡ seen g a s at
+  pub refused_is : (g : A → ℕ) {why : Refusal} → r ≡ seen f a s at → r ≡ Err why → r ≡ seen g a s at
   unfolding seen told
-  refused_is g e h = let i = told_no at f (a.read (drop at s)) e h in rw (i.is, ← i.ends) h
+  refused_is g e h = let i = told_why at f (a.read (drop at s)) e h in rw (i.is, ← i.ends) h
 
 -- ---- one after the other: r is what the first reader said
 
 module _ {A B : Type 0} (g : B → ℕ) (q : Answer A) (k : A → ℕ → Answer B) (at : ℕ) (f : A → ℕ) where
-  pub on_stop : {r : Read} {c : Fault} {p : ℕ} → r ≡ told at f q → r ≡ No p c → r ≡ told at g (and_then q k)
+  pub on_stop : {r : Read} {why : Refusal} → r ≡ told at f q → r ≡ Err why → r ≡ told at g (and_then q k)
   unfolding told and_then
-  on_stop e h = let i = told_no at f q e h in rw (i.is, ← i.ends) h
+  on_stop e h = let i = told_why at f q e h in rw (i.is, ← i.ends) h
 
-  pub on_go : {r out : Read} {v m : ℕ} → r ≡ told at f q → r ≡ Got m v
+  pub on_go : {r out : Read} {v m : ℕ} → r ≡ told at f q → r ≡ Ok (m, v)
       → ((x : A) (n : ℕ) → v ≡ f x → m ≡ at + n → out ≡ told (at + n) g (k x n)) → out ≡ told at g (and_then q k)
   unfolding and_then
   on_go e h w = let i = told_got at f q e h in rw i.is (w i.x i.n i.tells i.ends ∙ sym (told_shift at i.n g (k i.x i.n)))
@@ -116,30 +143,30 @@ module _ {A B : Type 0} (g : A × B → ℕ) (a : Format A) (b : A → Format B)
       → out ≡ told (at + n) g (mapped (λ y. (x, y)) ((b x).read (drop n (drop at s))))
   second x m n e o = o ∙ rw (e, drop-drop n at s) (sym (told_mapped (at + n) g (λ y. (x, y)) ((b x).read (drop (at + n) s))))
 
-  pub pair_stop : (f : A → ℕ) {r : Read} {c : Fault} {p : ℕ} → r ≡ seen f a s at → r ≡ No p c → r ≡ seen g (pair a b) s at
+  pub pair_stop : (f : A → ℕ) {r : Read} {why : Refusal} → r ≡ seen f a s at → r ≡ Err why → r ≡ seen g (pair a b) s at
   unfolding seen pair pair_read
   pair_stop f e h = on_stop _ _ _ at f e h
 
   -- whatever the first value is
-  pub pair_on : (f : A → ℕ) {r out : Read} {v m : ℕ} → r ≡ seen f a s at → r ≡ Got m v
+  pub pair_on : (f : A → ℕ) {r out : Read} {v m : ℕ} → r ≡ seen f a s at → r ≡ Ok (m, v)
       → ((x : A) → out ≡ seen (λ y. g (x, y)) (b x) s m) → out ≡ seen g (pair a b) s at
   unfolding seen pair pair_read
   pair_on f {m = m} e h w = on_go g _ _ at f e h (λ x n ev em. second x m n em (w x))
 
 -- the first value is a number, by which the second format goes
 module _ {B : Type 0} (g : ℕ × B → ℕ) (a : Format ℕ) (b : ℕ → Format B) (s : List ℕ) (at : ℕ) where
-  pub pair_go : {r out : Read} {v m : ℕ} → r ≡ seen itself a s at → r ≡ Got m v
+  pub pair_go : {r out : Read} {v m : ℕ} → r ≡ seen itself a s at → r ≡ Ok (m, v)
       → out ≡ seen (λ y. g (v, y)) (b v) s m → out ≡ seen g (pair a b) s at
   unfolding seen pair pair_read
   pair_go {m = m} e h w = on_go g _ _ at itself e h (λ x n ev em. second g a b s at x m n em (rw ev at w))
 
 -- the second format does not go by the first value, and of both nothing is told
 module _ {A B : Type 0} (a : Format A) (b : Format B) (s : List ℕ) (at : ℕ) where
-  pub seq_stop : (f : A → ℕ) {r : Read} {c : Fault} {p : ℕ} → r ≡ seen f a s at → r ≡ No p c → r ≡ seen none (seq a b) s at
+  pub seq_stop : (f : A → ℕ) {r : Read} {why : Refusal} → r ≡ seen f a s at → r ≡ Err why → r ≡ seen none (seq a b) s at
   unfolding seq
   seq_stop f e h = pair_stop none a (λ x. b) s at f e h
 
-  pub seq_go : (f : A → ℕ) {r out : Read} {v m : ℕ} → r ≡ seen f a s at → r ≡ Got m v → out ≡ seen none b s m → out ≡ seen none (seq a b) s at
+  pub seq_go : (f : A → ℕ) {r out : Read} {v m : ℕ} → r ≡ seen f a s at → r ≡ Ok (m, v) → out ≡ seen none b s m → out ≡ seen none (seq a b) s at
   unfolding seq
   seq_go f e h o = pair_on none a (λ x. b) s at f e h (λ x. o)
 
@@ -151,35 +178,35 @@ module _ {A B : Type 0} (g : B → ℕ) (a : Format A) (to : A → B) (from : B 
 
 -- what has no value first
 module _ {B : Type 0} (g : B → ℕ) (a : Format (Unit {0})) (b : Format B) (s : List ℕ) (at : ℕ) where
-  pub then_stop : {r : Read} {c : Fault} {p : ℕ} → r ≡ seen none a s at → r ≡ No p c → r ≡ seen g (a then b) s at
+  pub then_stop : {r : Read} {why : Refusal} → r ≡ seen none a s at → r ≡ Err why → r ≡ seen g (a then b) s at
   unfolding ◌then◌ seq
   then_stop e h = via_is g (pair a (λ x. b)) (λ p. p.1) _ _ s at (pair_stop (λ p. g p.1) a (λ x. b) s at none e h)
 
-  pub then_go : {r out : Read} {v m : ℕ} → r ≡ seen none a s at → r ≡ Got m v → out ≡ seen g b s m → out ≡ seen g (a then b) s at
+  pub then_go : {r out : Read} {v m : ℕ} → r ≡ seen none a s at → r ≡ Ok (m, v) → out ≡ seen g b s m → out ≡ seen g (a then b) s at
   unfolding ◌then◌ seq
   then_go e h o = via_is g (pair a (λ x. b)) (λ p. p.1) _ _ s at (pair_on (λ p. g p.1) a (λ x. b) s at none e h (λ x. o))
 
 -- ---- a number that is judged; every fault at the start; a format that a test picks; no bytes
 
 module _ (g : ℕ → ℕ) (ok : ℕ → Bool) (c : Fault) (a : Format ℕ) (s : List ℕ) (at : ℕ) where
-  pub judged_stop : {r : Read} {d : Fault} {p : ℕ} → r ≡ seen itself a s at → r ≡ No p d → r ≡ seen g (judged ok c a) s at
+  pub judged_stop : {r : Read} {why : Refusal} → r ≡ seen itself a s at → r ≡ Err why → r ≡ seen g (judged ok c a) s at
   unfolding seen judged judge_of told
-  judged_stop e h = let i = told_no at itself (a.read (drop at s)) e h in rw (i.is, ← i.ends) h
+  judged_stop e h = let i = told_why at itself (a.read (drop at s)) e h in rw (i.is, ← i.ends) h
 
-  pub judged_got : {r out : Read} {v m : ℕ} → r ≡ seen itself a s at → r ≡ Got m v → true ≡ ok v → out ≡ Got m (g v) → out ≡ seen g (judged ok c a) s at
+  pub judged_got : {r out : Read} {v m : ℕ} → r ≡ seen itself a s at → r ≡ Ok (m, v) → true ≡ ok v → out ≡ Ok (m, g v) → out ≡ seen g (judged ok c a) s at
   unfolding seen judged judge_of judge told
   judged_got e h o w = let i = told_got at itself (a.read (drop at s)) e h in rw (i.is, ← i.tells, ← o, ← i.ends) w
 
-  pub judged_no : {r : Read} {v m : ℕ} → r ≡ seen itself a s at → r ≡ Got m v → false ≡ ok v → No at c ≡ seen g (judged ok c a) s at
+  pub judged_no : {r : Read} {v m : ℕ} → r ≡ seen itself a s at → r ≡ Ok (m, v) → false ≡ ok v → Err (At c at) ≡ seen g (judged ok c a) s at
   unfolding seen judged judge_of judge told
   judged_no e h o = let i = told_got at itself (a.read (drop at s)) e h in rw (i.is, ← i.tells, ← o, add-zero)
 
 module _ {A : Type 0} (g : A → ℕ) (a : Format A) (s : List ℕ) (at : ℕ) where
-  pub start_got : {r : Read} {v m : ℕ} → r ≡ seen g a s at → r ≡ Got m v → r ≡ seen g (at_start a) s at
+  pub start_got : {r : Read} {v m : ℕ} → r ≡ seen g a s at → r ≡ Ok (m, v) → r ≡ seen g (at_start a) s at
   unfolding seen at_start home told
   start_got e h = let i = told_got at g (a.read (drop at s)) e h in rw (i.is, ← i.tells, ← i.ends) h
 
-  pub start_no : {r : Read} {c : Fault} {p : ℕ} → r ≡ seen g a s at → r ≡ No p c → No at c ≡ seen g (at_start a) s at
+  pub start_no : {r : Read} {c : Fault} {p : ℕ} → r ≡ seen g a s at → r ≡ Err (At c p) → Err (At c at) ≡ seen g (at_start a) s at
   unfolding seen at_start home told
   start_no e h = let i = told_no at g (a.read (drop at s)) e h in rw (i.is, add-zero)
 
@@ -192,7 +219,7 @@ module _ {A : Type 0} (g : A → ℕ) (s : List ℕ) (at : ℕ) (t : Bool) (x y 
   unfolding pick
   pick_no h e = rw (← h) e
 
-pub nothing_is : (g : Unit {0} → ℕ) (s : List ℕ) (at : ℕ) {out : Read} → out ≡ Got at (g tt) → out ≡ seen g nothing s at
+pub nothing_is : (g : Unit {0} → ℕ) (s : List ℕ) (at : ℕ) {out : Read} → out ≡ Ok (at, g tt) → out ≡ seen g nothing s at
 unfolding seen nothing told
 nothing_is g s at e = rw add-zero e
 
@@ -218,33 +245,33 @@ no_as e h = sym h ∙ e
 -- ---- numbers and constants
 
 module _ (k : ℕ) (s : List ℕ) (at : ℕ) where
-  pub number_is : {w : ℕ} → w ≡ value (take k (drop at s)) → at + k ≤ length s → Got (at + k) w ≡ seen itself (number k) s at
+  pub number_is : {w : ℕ} → w ≡ value (take k (drop at s)) → at + k ≤ length s → Ok (at + k, w) ≡ seen itself (number k) s at
   unfolding seen number number_read pick told
   number_is w h = let l : k ≤ length (drop at s) = omega (arith, length-drop at s) in rw (le-leb k (length (drop at s)) l, w)
 
-  pub number_no : length s - at < k → No at Cut ≡ seen itself (number k) s at
+  pub number_no : length s - at < k → Err (At Cut at) ≡ seen itself (number k) s at
   unfolding seen number number_read pick told
   number_no h = let l : length (drop at s) < k = omega (arith, length-drop at s) in rw (lt-leb k (length (drop at s)) l, add-zero)
 
 -- a count, as the code judges the number that it read
 unfoldable pub judged_count : ℕ → ℕ → ℕ → Read → Read
-judged_count at low high (Got m n) = pick (within low high n) (Got m n) (No at Count)
-judged_count at low high (No p c) = No p c
+judged_count at low high (Ok (m, n)) = pick (within low high n) (Ok (m, n)) (Err (At Count at))
+judged_count at low high (Err why) = Err why
 
 module _ (at low high : ℕ) {r : Read} where
-  pub count_stop : {c : Fault} {p : ℕ} → r ≡ No p c → r ≡ judged_count at low high r
+  pub count_stop : {why : Refusal} → r ≡ Err why → r ≡ judged_count at low high r
   unfolding judged_count
   count_stop h = h ∙ sym (ap (judged_count at low high) h)
 
-  pub count_low : {n m : ℕ} → r ≡ Got m n → n < low → No at Count ≡ judged_count at low high r
+  pub count_low : {n m : ℕ} → r ≡ Ok (m, n) → n < low → Err (At Count at) ≡ judged_count at low high r
   unfolding judged_count within pick
   count_low {n} h k = sym (ap (judged_count at low high) h ∙ rw (lt-leb low n k))
 
-  pub count_high : {n m : ℕ} → r ≡ Got m n → low ≤ n → high < n → No at Count ≡ judged_count at low high r
+  pub count_high : {n m : ℕ} → r ≡ Ok (m, n) → low ≤ n → high < n → Err (At Count at) ≡ judged_count at low high r
   unfolding judged_count within pick
   count_high {n} h k l = sym (ap (judged_count at low high) h ∙ rw (le-leb low n k, lt-leb n high l))
 
-  pub count_in : {out : Read} {n m : ℕ} → r ≡ Got m n → low ≤ n → n ≤ high → out ≡ Got m n → out ≡ judged_count at low high r
+  pub count_in : {out : Read} {n m : ℕ} → r ≡ Ok (m, n) → low ≤ n → n ≤ high → out ≡ Ok (m, n) → out ≡ judged_count at low high r
   unfolding judged_count within pick
   count_in {n = n} h k l o = o ∙ sym (ap (judged_count at low high) h ∙ rw (le-leb low n k, le-leb n high l))
 
@@ -254,7 +281,7 @@ pub count_is : (k low high : ℕ) (s : List ℕ) (at : ℕ) {r x : Read} → r �
 unfolding seen count judged judge_of judge judged_count told pick
 count_is k low high s at e o = o ∙ ap (judged_count at low high) e ∙ go ((number k).read (drop at s))
   where
-    pass : (b : Bool) (n m : ℕ) → pick b (Got (at + m) n) (No at Count) ≡ told at itself (judge Count b n m)
+    pass : (b : Bool) (n m : ℕ) → pick b (Ok (at + m, n)) (Err (At Count at)) ≡ told at itself (judge Count b n m)
     pass true n m = refl
     pass false n m = rw add-zero
 
@@ -264,19 +291,19 @@ count_is k low high s at e o = o ∙ ap (judged_count at low high) e ∙ go ((nu
 
 -- a constant, as the code judges the number that it read
 unfoldable pub judged_fixed : ℕ → ℕ → Fault → Read → Read
-judged_fixed at v c (Got m n) = pick (eqb n v) (Got m 0) (No at c)
-judged_fixed at v c (No p d) = No p d
+judged_fixed at v c (Ok (m, n)) = pick (eqb n v) (Ok (m, 0)) (Err (At c at))
+judged_fixed at v c (Err why) = Err why
 
 module _ (at v : ℕ) (c : Fault) {r : Read} where
-  pub fixed_stop : {d : Fault} {p : ℕ} → r ≡ No p d → r ≡ judged_fixed at v c r
+  pub fixed_stop : {why : Refusal} → r ≡ Err why → r ≡ judged_fixed at v c r
   unfolding judged_fixed
   fixed_stop h = h ∙ sym (ap (judged_fixed at v c) h)
 
-  pub fixed_off : {n m : ℕ} → r ≡ Got m n → (n ≡ v → ⊥) → No at c ≡ judged_fixed at v c r
+  pub fixed_off : {n m : ℕ} → r ≡ Ok (m, n) → (n ≡ v → ⊥) → Err (At c at) ≡ judged_fixed at v c r
   unfolding judged_fixed pick
   fixed_off {n} h k = sym (ap (judged_fixed at v c) h ∙ rw (ne_eqb n v k))
 
-  pub fixed_got : {n m : ℕ} → r ≡ Got m n → n ≡ v → Got m 0 ≡ judged_fixed at v c r
+  pub fixed_got : {n m : ℕ} → r ≡ Ok (m, n) → n ≡ v → Ok (m, 0) ≡ judged_fixed at v c r
   unfolding judged_fixed pick
   fixed_got {n} h k = sym (ap (judged_fixed at v c) h ∙ rw (eq-eqb n v k))
 
@@ -286,7 +313,7 @@ pub fixed_is : (k v : ℕ) (c : Fault) (s : List ℕ) (at : ℕ) {r x : Read} �
 unfolding seen fixed via judged judge_of judge judged_fixed mapped told pick
 fixed_is k v c s at e o = o ∙ ap (judged_fixed at v c) e ∙ go ((number k).read (drop at s))
   where
-    pass : (b : Bool) (n m : ℕ) → pick b (Got (at + m) 0) (No at c) ≡ told at none (mapped {B = Unit {0}} (λ x. tt) (judge c b n m))
+    pass : (b : Bool) (n m : ℕ) → pick b (Ok (at + m, 0)) (Err (At c at)) ≡ told at none (mapped {B = Unit {0}} (λ x. tt) (judge c b n m))
     pass true n m = refl
     pass false n m = rw add-zero
 
@@ -297,12 +324,12 @@ fixed_is k v c s at e o = o ∙ ap (judged_fixed at v c) e ∙ go ((number k).re
 -- one that the code reads in two parts: x of the first j bytes, and y of the k behind them
 module _ (j k : ℕ) (first last : ℕ) (c : Fault) (s : List ℕ) (at : ℕ) {x y : ℕ} where
   both : x ≡ value (take j (drop at s)) → y ≡ value (take k (drop (at + j) s)) → at + (j + k) ≤ length s
-      → pick (eqb (x + 256 ^ j * y) (first + 256 ^ j * last)) (Got (at + (j + k)) 0) (No at c) ≡ seen none (fixed (j + k) (first + 256 ^ j * last) c) s at
+      → pick (eqb (x + 256 ^ j * y) (first + 256 ^ j * last)) (Ok (at + (j + k), 0)) (Err (At c at)) ≡ seen none (fixed (j + k) (first + 256 ^ j * last) c) s at
   unfolding judged_fixed
   both ex ey h = fixed_is (j + k) (first + 256 ^ j * last) c s at (number_is (j + k) s at (value_join j k s at ex ey (omega arith)) h) refl
 
   pub parts_got : x ≡ value (take j (drop at s)) → y ≡ value (take k (drop (at + j) s)) → at + (j + k) ≤ length s → x ≡ first → y ≡ last
-      → Got (at + (j + k)) 0 ≡ seen none (fixed (j + k) (first + 256 ^ j * last) c) s at
+      → Ok (at + (j + k), 0) ≡ seen none (fixed (j + k) (first + 256 ^ j * last) c) s at
   unfolding pick
   parts_got ex ey h p q = rw (eq-eqb (x + 256 ^ j * y) (first + 256 ^ j * last) (rw (p, q))) at (both ex ey h)
 
@@ -314,7 +341,7 @@ module _ (j k : ℕ) (first last : ℕ) (c : Fault) (s : List ℕ) (at : ℕ) {x
       (f, sym (mul-div_right y (omega arith)) ∙ ap (λ (w : ℕ). w / 256 ^ j) l ∙ mul-div_right last (omega arith))
 
   pub parts_off : x ≡ value (take j (drop at s)) → y ≡ value (take k (drop (at + j) s)) → at + (j + k) ≤ length s → x < 256 ^ j → first < 256 ^ j → (x ≡ first → y ≡ last → ⊥)
-      → No at c ≡ seen none (fixed (j + k) (first + 256 ^ j * last) c) s at
+      → Err (At c at) ≡ seen none (fixed (j + k) (first + 256 ^ j * last) c) s at
   unfolding pick
   parts_off ex ey h m n differ =
       let same : x + 256 ^ j * y ≡ first + 256 ^ j * last → ⊥ = λ e. let w = same_parts e m n in differ w.0 w.1 in
@@ -332,7 +359,7 @@ took k t {x} {n} e = go (leb k (length t)) refl e
 small_there : (k : ℕ) (t : List ℕ) → Bytes t → k ≤ length t → value (take k t) < 256 ^ k
 small_there k t b h = rw (length-take-le k t h) at (value_small (take k t) (bytes_take k t b))
 
-pub number_got : (k : ℕ) (s : List ℕ) (at : ℕ) {r : Read} {m v : ℕ} → Bytes s → 0 < k → r ≡ seen itself (number k) s at → r ≡ Got m v → (m ≤ length s) × (v < 256 ^ k)
+pub number_got : (k : ℕ) (s : List ℕ) (at : ℕ) {r : Read} {m v : ℕ} → Bytes s → 0 < k → r ≡ seen itself (number k) s at → r ≡ Ok (m, v) → (m ≤ length s) × (v < 256 ^ k)
 unfolding seen
 number_got k s at b some e h =
     let i = told_got at itself ((number k).read (drop at s)) e h in
@@ -340,8 +367,8 @@ number_got k s at b some e h =
     (omega (arith, i.ends, t.0, t.1.1, length-drop at s), rw (i.tells, t.1.0) (small_there k (drop at s) (bytes_drop at s b) t.0))
 
 -- two constants, one behind the other, that the code reads at once where they are right
-pub at_once : (j k first last : ℕ) (c : Fault) (s : List ℕ) (at : ℕ) {r : Read} {m v : ℕ} → Bytes s → 0 < k → first < 256 ^ j → r ≡ seen itself (number (j + k)) s at → r ≡ Got m v → v ≡ first + 256 ^ j * last
-    → Got m 0 ≡ seen none (fixed j first c then fixed k last c) s at
+pub at_once : (j k first last : ℕ) (c : Fault) (s : List ℕ) (at : ℕ) {r : Read} {m v : ℕ} → Bytes s → 0 < k → first < 256 ^ j → r ≡ seen itself (number (j + k)) s at → r ≡ Ok (m, v) → v ≡ first + 256 ^ j * last
+    → Ok (m, 0) ≡ seen none (fixed j first c then fixed k last c) s at
 unfolding seen
 at_once j k first last c s at {m = m} b some l e h o =
     let i = told_got at itself ((number (j + k)).read (drop at s)) e h in
@@ -356,14 +383,14 @@ at_once j k first last c s at {m = m} b some l e h o =
     let end : m ≡ at + j + k = omega (arith, i.ends, t.1.1) in
     then_go none (fixed j first c) (fixed k last c) s at (fixed_is j first c s at f (fixed_got at first c refl p.0)) refl (rw end (fixed_is k last c s (at + j) g (fixed_got (at + j) last c refl p.1)))
 
-pub fixed_cut : (k v : ℕ) (c : Fault) (s : List ℕ) (at : ℕ) → length s - at < k → No at Cut ≡ seen none (fixed k v c) s at
+pub fixed_cut : (k v : ℕ) (c : Fault) (s : List ℕ) (at : ℕ) → length s - at < k → Err (At Cut at) ≡ seen none (fixed k v c) s at
 unfolding judged_fixed
 fixed_cut k v c s at h = fixed_is k v c s at (number_no k s at h) refl
 
-pub flag_got : (s : List ℕ) (at : ℕ) {r out : Read} {v m : ℕ} → r ≡ seen itself (number 4) s at → r ≡ Got m v → v ≤ 1 → out ≡ Got m v → out ≡ seen bit flag s at
+pub flag_got : (s : List ℕ) (at : ℕ) {r out : Read} {v m : ℕ} → r ≡ seen itself (number 4) s at → r ≡ Ok (m, v) → v ≤ 1 → out ≡ Ok (m, v) → out ≡ seen bit flag s at
 unfolding flag
 flag_got s at {v = v} {m = m} e h o w =
     via_is bit (judged (λ n. leb n 1) Field (number 4)) (λ n. eqb n 1) _ _ s at
-    (judged_got (λ n. bit (eqb n 1)) (λ n. leb n 1) Field (number 4) s at e h (yes_le o) (w ∙ ap (λ (b : ℕ). Got m b) (sym (bit_eqb v o))))
+    (judged_got (λ n. bit (eqb n 1)) (λ n. leb n 1) Field (number 4) s at e h (yes_le o) (w ∙ ap (λ (b : ℕ). read_as m b) (sym (bit_eqb v o))))
 
 pub ruleset reading = (refl, pair_stop, pair_go, seq_stop, seq_go, then_stop, then_go, judged_stop, judged_got, judged_no, via_is, start_got, start_no, pick_yes, pick_no, nothing_is, flag_got, untold_is, yes_le, no_le, yes_eq, no_eq, yes_as, no_as)

@@ -1,14 +1,13 @@
 -- Where a value of a row stands: behind those before it; and a loop that goes there.
-use Rattle.std.specs.Prelude.{ℕ, zero, suc, ◌+◌, ◌≤◌, ◌<◌, ◌≡◌, refl, List, [], ◌∷◌, ◌++◌, length, take, drop}
+use Rattle.std.specs.Prelude.{ℕ, zero, suc, ◌+◌, ◌≤◌, ◌<◌, ◌≡◌, refl, List, [], ◌∷◌, ◌++◌, length, take, drop, Ok, Err}
 use Rattle.std.proofs.Common.{add-zero, zero-add, arith, sym, ◌∙◌, append-nil, append_assoc, length-append, length-drop, take_all}
-use Rattle.format.specs.declared.Fault.{Fault}
-use Rattle.format.specs.declared.Read.{Read}
-use Rattle.format.specs.declared.Read.TheVariants.{Got, No}
+use Rattle.format.specs.Answers.{Read}
+use Rattle.format.specs.declared.Refusal.{Refusal}
 use Rattle.format.specs.Format.{Format}
 use Rattle.format.specs.ReadWrite.{each_write, AllFit}
-use Rattle.format.specs.Laws.Seen.{seen, unlike, got_at}
+use Rattle.format.specs.Laws.Seen.{ok_parts, unlike, got_at}
 use Rattle.format.specs.Laws.Written.{behind, Row, Stands, first}
-use Rattle.format.specs.Laws.Back.{Where, back_got, back_no}
+use Rattle.format.specs.Laws.Back.{Where}
 use Rattle.format.specs.Row.{start_in}
 
 -- its first starts where the row does, and behind all of them it ends
@@ -71,28 +70,25 @@ nth a s from k at xs t e row l =
 
 -- whatever row of k values or more stands from a place on, r tells where its value i starts
 unfoldable pub Skipped : {A : Type 0} → (ℕ → Format A) → List ℕ → ℕ → ℕ → ℕ → Read → Type 0
-Skipped {A} a s from k i r = (xs : List A) (t : List ℕ) → Row a s 0 from xs t → k ≤ length xs → r ≡ Got (start_in a from xs i) 0
-
-ends_alike : {u v m n : ℕ} → Got m u ≡ Got n v → m ≡ n
-ends_alike e = cc
+Skipped {A} a s from k i r = (xs : List A) (t : List ℕ) → Row a s 0 from xs t → k ≤ length xs → r ≡ Ok (start_in a from xs i, 0)
 
 module _ {A : Type 0} (a : ℕ → Format A) (s : List ℕ) (from k : ℕ) where
-  pub skip_start : Skipped a s from k 0 (Got from 0)
+  pub skip_start : Skipped a s from k 0 (Ok (from, 0))
   unfolding Skipped
   skip_start xs t r h = got_at (start_first a from xs)
 
   -- of a row that stands there
   module _ (i : ℕ) {r : Read} (w : Skipped a s from k i r) (xs : List A) (t : List ℕ) (row : Row a s 0 from xs t) (l : k ≤ length xs) where
-    pub skip_is : {v at : ℕ} → r ≡ Got at v → at ≡ start_in a from xs i
+    pub skip_is : {v at : ℕ} → r ≡ Ok (at, v) → at ≡ start_in a from xs i
     unfolding Skipped
-    skip_is h = ends_alike (sym h ∙ w xs t row l)
+    skip_is h = (ok_parts (sym h ∙ w xs t row l)).0
 
-    pub skip_never : {B : Type 0} {c : Fault} {q : ℕ} → r ≡ No q c → B
+    pub skip_never : {B : Type 0} {why : Refusal} → r ≡ Err why → B
     unfolding Skipped
     skip_never h = unlike (w xs t row l) h
 
-  module _ (i at : ℕ) (w : Skipped a s from k i (Got at 0)) where
-    pub skip_end : i ≤ k → k ≤ i → Skipped a s from k k (Got at 0)
+  module _ (i at : ℕ) (w : Skipped a s from k i (Ok (at, 0))) where
+    pub skip_end : i ≤ k → k ≤ i → Skipped a s from k k (Ok (at, 0))
     skip_end l m = let e : i ≡ k = omega arith in rw e at w
 
     -- the value that stands there
@@ -100,18 +96,8 @@ module _ {A : Type 0} (a : ℕ → Format A) (s : List ℕ) (from k : ℕ) where
     skip_nth xs t row m l = nth a s from i at xs t (skip_is i w xs t row m refl) row (omega arith)
 
     -- q is where it ends
-    pub skip_step : (q : ℕ) → i < k → Where (a i) s at (λ x. at + length ((a i).write x)) q → Skipped a s from k (i + 1) (Got q 0)
+    pub skip_step : (q : ℕ) → i < k → Where (a i) s at (λ x. at + length ((a i).write x)) q → Skipped a s from k (i + 1) (Ok (q, 0))
     unfolding Skipped Where
     skip_step q l h xs t row m =
         let n = skip_nth xs t row m l in
         got_at (omega (arith, h n.x (n.tail, n.stands), n.starts, start_more a from i xs n.ys n.x n.whole))
-
-    -- as it was read
-    module _ (g : A → ℕ) {r : Read} where
-      pub skip_go : {v q : ℕ} → i < k → r ≡ seen g (a i) s at → r ≡ Got q v → Skipped a s from k (i + 1) (Got q 0)
-      unfolding Where
-      skip_go l e h = skip_step _ l (λ x b. (back_got g (a i) s at b.1 e h).1)
-
-      pub skip_stop : {c : Fault} {q : ℕ} → i < k → r ≡ seen g (a i) s at → r ≡ No q c → Skipped a s from k k r
-      unfolding Skipped
-      skip_stop l e h xs t row m = back_no g (a i) s at (skip_nth xs t row m l).stands e h

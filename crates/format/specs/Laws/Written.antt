@@ -1,10 +1,9 @@
 -- What stands written at a place is read there.
-use Rattle.std.specs.Prelude.{ℕ, ◌+◌, ◌<◌, ◌≡◌, refl, length}
+use Rattle.std.specs.Prelude.{ℕ, ◌+◌, ◌<◌, ◌≡◌, refl, length, Ok}
 use Rattle.std.proofs.Common.{arith, sym, ap, ◌∙◌, drop-drop}
 use mathlib.Core.List.{List, [], ◌∷◌, ◌++◌, append_assoc}
 use Rattle.std.proofs.Math.ListN.{drop}
 use Rattle.std.proofs.Math.Seq.{drop-append_seam}
-use Rattle.format.specs.declared.Read.TheVariants.{Got}
 use Rattle.format.specs.Format.{Format}
 use Rattle.format.specs.ReadWrite.{each_write, AllFit}
 use Rattle.format.specs.Laws.Seen.{seen, told}
@@ -13,7 +12,7 @@ use Rattle.format.specs.Laws.Seen.{seen, told}
 pub behind : (s : List ℕ) (at : ℕ) (u v : List ℕ) → drop at s ≡ u ++ v → drop (at + length u) s ≡ v
 behind s at u v e = sym (drop-drop (length u) at s) ∙ ap (drop (length u)) e ∙ drop-append_seam u v
 
-pub seen_back : {A : Type 0} (g : A → ℕ) (a : Format A) (x : A) (s : List ℕ) (at : ℕ) (t : List ℕ) → a.Fit x → drop at s ≡ a.write x ++ t → seen g a s at ≡ Got (at + length (a.write x)) (g x)
+pub seen_back : {A : Type 0} (g : A → ℕ) (a : Format A) (x : A) (s : List ℕ) (at : ℕ) (t : List ℕ) → a.Fit x → drop at s ≡ a.write x ++ t → seen g a s at ≡ Ok (at + length (a.write x), g x)
 unfolding seen told
 seen_back g a x s at t f e = rw (e, a.back x t f)
 

@@ -1,5 +1,5 @@
 -- A given element as it is written: its identifier and its data, behind others of its rule after 8001.
-use Rattle.std.specs.Prelude.{ℕ, ◌<◌, ◌≡◌, refl, Bool, true, false, List, ◌++◌, length, drop, eqb}
+use Rattle.std.specs.Prelude.{ℕ, ◌<◌, ◌≡◌, refl, Bool, true, false, List, ◌++◌, length, drop, eqb, Ok, Err}
 use Rattle.std.proofs.Common.{arith, sym, ap, ◌∙◌, append-nil, eqb-true, ne_eqb}
 use Rattle.std.proofs.Math.Seq.{drop-length}
 use Rattle.format.specs.declared.Fault.TheVariants as Fault
@@ -8,7 +8,8 @@ use Rattle.format.specs.Laws.Format.{mapped_got, apart}
 use Rattle.format.specs.ReadWrite.{pair_write, spelt}
 use Rattle.format.specs.Combinators.{pair, judged, via, seq, ◌then◌, number, fixed}
 use Rattle.kind.specs.declared.Product.{Product}
-use Rattle.kind.specs.declared.Row.{Row}
+use Rattle.kind.specs.Answers.{Row}
+use Rattle.format.specs.declared.Refusal.TheVariants.{At, Given}
 use Rattle.kind.specs.Kinds.{kinds, row_in, row_of}
 use Rattle.kind.specs.Laws.Kinds.{offered_is}
 use Rattle.element.specs.Data.{data_of}
@@ -38,11 +39,12 @@ unfolding given row_of element identifier judged pair pair_write number
 given_written p q id s x l bs e = go (row_of p id) refl e
   where
     go : (w : Row) → row_of p id ≡ w → given_by w id s ≡ got x l → (element q).write x ≡ spelt 4 id ++ s
-    go (Row.Is k) f z =
+    go (Ok k) f z =
         let v = mapped_got (with_data id) (whole (length s) ((data_of k).read s)) x l z in
-        let i : row_in kinds id ≡ Row.Is k = offered_is p (row_in kinds id) f in
+        let i : row_in kinds id ≡ Ok k = offered_is p (row_in kinds id) f in
         rw (v.1.1, i, all_read (data_of k) s v.0 l bs v.1.0)
-    go (Row.No c o) f z = apart (sym z)
+    go (Err (At c o)) f z = apart (sym z)
+    go (Err (Given c o)) f z = apart (sym z)
 
 -- at the first place of its rule, and at a later one
 pub first_written : (p q : Product) (id : ℕ) (s : List ℕ) (x : Element) (l : ℕ) → Bytes s → given p id s ≡ got x l → (placed q 0).write x ≡ spelt 4 id ++ s

@@ -7,4 +7,4 @@ pub returns-in_default : goal.returns-in_default
 returns-in_default c = search (rules, refused_is)
 
 pub returns : goal.returns
-returns c = told_is _ _ _ _ _ c.data_at-d.ensures c.in-Got.is refl (λ x. refl)
+returns c = told_is _ _ _ _ _ c.data_at-d.ensures c.in-Ok.is refl (λ x. refl)

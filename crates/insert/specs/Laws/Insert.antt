@@ -3,18 +3,21 @@ use Prim.Native.Nat.{ℕ, ◌+◌, ◌-◌, ◌≤◌, ◌<◌, max}
 use native.Mathlib.Omega.{arith}
 use Rattle.std.proofs.Math.Decide.{dec_lt}
 use Rattle.std.proofs.Math.Path.{◌≡◌, refl, sym, ap}
-use Rattle.std.proofs.Common.{◌∙◌, length-append, length-drop, take-append-drop, length-take-le, take_at, drop_at, le-leb}
+use Rattle.std.proofs.Common.{◌∙◌, length-append, length-drop, take-append-drop, length-take-le, take_at, drop_at, le-leb, Ok, Err, Some, None}
 use mathlib.Core.List.{List, [], ◌∷◌, ◌++◌, append_assoc}
 use Rattle.std.specs.Prelude.{leb, take}
 use Rattle.std.proofs.Math.ListN.{length, drop, drop_of_length-le}
 use Rattle.std.proofs.lemmas.Bool.{lt-leb}
 use Rattle.format.specs.declared.Fault.{Fault}
-use Rattle.format.specs.declared.Outcome.{Outcome}
-use Rattle.format.specs.declared.Read.{Read}
-use Rattle.format.specs.Laws.Fault.{in_given}
+use Rattle.kind.specs.Answers.{Edition}
+use Rattle.format.specs.Answers.{Outcome, Read}
+use Rattle.spot.specs.Answers.{Spot}
+use Rattle.format.specs.declared.Refusal.{Refusal}
+use Rattle.format.specs.declared.Refusal.TheVariants.{At, Given}
+use Rattle.format.specs.Fault.{in_given}
+use Rattle.format.specs.Laws.Fault.{given_ok}
 use Rattle.format.specs.Format.{Answer, got, refused, pick, Bytes}
 use Rattle.kind.specs.declared.Product.{Product}
-use Rattle.kind.specs.declared.Edition.{Edition}
 use Rattle.kind.specs.Kinds.{edition_of}
 use Rattle.rule.specs.Rule.{Rule}
 use Rattle.rule.specs.Places.{enabled_at}
@@ -25,15 +28,13 @@ use Rattle.deck.specs.Written.{deck_of, start_of, written}
 use Rattle.room.specs.Room.{room_for}
 use Rattle.buffer.specs.Laws.Holds.{Holds, holds_fill}
 use Rattle.spot.specs.declared.Site.{Site}
-use Rattle.spot.specs.declared.Spot.{Spot}
-use Rattle.spot.specs.Laws.Spot.{spot_says}
 use Rattle.locate.specs.Laws.Located.{site_of, located}
-use Rattle.steps.specs.Laws.Steps.{Sound, sound_read, Here, here, here_stands, name_read, name_end, name_end_lem, name_never, start_within, start_past}
+use Rattle.steps.specs.Laws.Steps.{Sound, sound_read, Here, here, here_stands, name_read, name_end, name_got, name_end_lem, name_never, start_within, start_past}
 use Rattle.plan.specs.Edit.{Plan, become, refuse, refuse_given, at_copy, at_second, insert, edited}
 use Rattle.plan.specs.Laws.Found.{Makes, Does, Sits, Within, found, ground, found_within}
 use Rattle.plan.specs.Laws.Fits.{Every, every_append, every_take, every_drop, Fits, fits_deck, fits_anywhere}
 use Rattle.plan.specs.Laws.Finish.{Finishes, made_finish}
-use Rattle.plan.specs.Laws.Makes.{made_no, made_given, made_out}
+use Rattle.plan.specs.Laws.Makes.{given_err, made_no, made_given, made_out}
 use Rattle.insert.specs.Laws.Copy.{ahead, ahead_long, copy_size, copy_long, Puts}
 use Rattle.place.specs.Laws.Place.{lost, lost_small, lost_later, Opens, rules_lose}
 
@@ -122,14 +123,14 @@ module _ (f : Site) (k : ℕ) (x l d : List ℕ) where
 
     -- 18, 19, 20: t is what was judged, w how many bytes an offset has
     module _ {t : Outcome} {w : ℕ} where
-      pub inserts_out : w ≡ wide f.version → t ≡ room_for (f.rules + 1) (n + w) (length d) → ((u : ℕ) → t ≡ Outcome.Done u → ⊥) → k ≤ f.rules → n ≡ f.bytes + (copy_size x l k - lost k f.rules) → Inserts f k x l d t d
+      pub inserts_out : {r : Outcome} {why : Refusal} → w ≡ wide f.version → t ≡ room_for (f.rules + 1) (n + w) (length d) → t ≡ Err why → r ≡ Err why → k ≤ f.rules → n ≡ f.bytes + (copy_size x l k - lost k f.rules) → Inserts f k x l d r d
       unfolding Inserts Whatever
-      inserts_out ew j h i e p v rs m q o fq ef ez =
+      inserts_out ew j h er i e p v rs m q o fq ef ez =
           let z : w ≡ wide v = ew ∙ ap wide o.version in
           let y : n + w ≡ length (written v (with k rs q)) = omega (arith, is_long e i p v rs m q o ef ez, written_one_more v rs (with k rs q) (with_long v rs k q), z) in
-          made_out v f.bytes d refl j h (ap (λ (z : ℕ). z + 1) o.many ∙ sym (with_long v rs k q)) y
+          made_out v f.bytes d refl j h er (ap (λ (z : ℕ). z + 1) o.many ∙ sym (with_long v rs k q)) y
 
-      pub inserts_done : (z : List ℕ) (y : List ℕ) {u : ℕ} (s : ℕ) → w ≡ wide f.version → t ≡ room_for (f.rules + 1) (n + w) (length d) → t ≡ Outcome.Done u → k ≤ f.rules → n ≡ f.bytes + (copy_size x l k - lost k f.rules) → Copied f k x l d z → Finishes f (f.rules + 1) n z s y → Inserts f k x l d t y
+      pub inserts_done : (z : List ℕ) (y : List ℕ) {u : ℕ} (s : ℕ) → w ≡ wide f.version → t ≡ room_for (f.rules + 1) (n + w) (length d) → t ≡ Ok u → k ≤ f.rules → n ≡ f.bytes + (copy_size x l k - lost k f.rules) → Copied f k x l d z → Finishes f (f.rules + 1) n z s y → Inserts f k x l d t y
       unfolding Inserts Copied Whatever
       inserts_done z y s ew j h i e u fin p v rs m q o fq ef ez =
           let en = is_long e i p v rs m q o ef ez in
@@ -168,24 +169,28 @@ module _ (s : List ℕ) {p : Product} (v : ℕ) {qs : List Rule} {j : ℕ} (h : 
       let l : length P ≡ a = simp length-append (omega (arith, h.starts, head_there)) in
       part_of P (inner h.r.elements) (rules (j + 1) h.later) {e = e} (whole_there ∙ simp append_assoc) l (omega (arith, end_there))
 
+-- where its name ends
+pub named_in : (s : List ℕ) (at : ℕ) {t a : Read} {e v : ℕ} → t ≡ name_read s at → a ≡ in_given t → a ≡ Ok (e, v) → e ≡ name_end s at
+named_in s at {t = t} i b h = name_got s at i (given_ok t b h)
+
 module _ (f : Site) (k : ℕ) (s : List ℕ) (j : ℕ) (g : Site) (d : List ℕ) where
   -- 16
-  pub copies_place : f.rules < k → Copies f k s j g d (Outcome.No Fault.Absent 0) d
+  pub copies_place : f.rules < k → Copies f k s j g d (Err (At Fault.Absent 0)) d
   unfolding Copies pick
   copies_place l p v rs u qs o w eq ec ee = rw (lt-leb k (length rs) (omega (arith, o.many))) (made_no v f.bytes d refl)
 
-  pub copies_rule : k ≤ f.rules → g.rules ≤ j → Copies f k s j g d (Outcome.No Fault.Absent 1) d
+  pub copies_rule : k ≤ f.rules → g.rules ≤ j → Copies f k s j g d (Err (At Fault.Absent 1)) d
   unfolding Copies pick at_copy
   copies_rule l h p v rs u qs o w eq ec ee =
       let z : drop j qs ≡ [] = drop_of_length-le qs {i = j} (omega arith) in
       rw (le-leb k (length rs) (omega (arith, o.many)), z) (made_no v f.bytes d refl)
 
   -- its name can be read
-  pub copies_unnamed : (r : Outcome) (z : List ℕ) {t : Read} {c : Fault} {q : ℕ} → j < g.rules → t ≡ name_read s g.start → t ≡ Read.No q c → Copies f k s j g d r z
+  pub copies_unnamed : (r : Outcome) (z : List ℕ) {t a : Read} {why : Refusal} → j < g.rules → t ≡ name_read s g.start → a ≡ in_given t → a ≡ Err why → Copies f k s j g d r z
   unfolding Copies
-  copies_unnamed r z lj i m p v rs u qs o w eq ec ee =
+  copies_unnamed r z {t = t} lj i b m p v rs u qs o w eq ec ee =
       let h = here p u s qs j w (omega arith) in
-      name_never s (start_of u qs j) (i ∙ ap (name_read s) ec) m p j h.r (here_stands p u s qs j h)
+      name_never s (start_of u qs j) (i ∙ ap (name_read s) ec) (given_err t b m).1 p j h.r (here_stands p u s qs j h)
 
   -- the rule, by its parts
   pub copies_is : (t x : ℕ) (a l z : List ℕ) (r : Outcome) → Inserts f k a l d r z → a ≡ take (t - g.start) (drop g.start s) → l ≡ take (g.end - x) (drop x s)
@@ -218,47 +223,55 @@ copy_sizes f k d s j g t x a l ea el w h lk y lj et ex =
     let ll : length l ≡ g.end - x = ap length el ∙ length-take-le (g.end - x) (drop x s) (omega (arith, length-drop x s)) in
     record { within = w; behind = h; place = lk; front_small = omega arith; front_large = omega arith; elements_small = omega arith }
 
+-- a fault of the second deck
+record Second (z : Plan (List Rule)) (why : Refusal) : Type 0 where
+  pub c : Fault
+  pub q : ℕ
+  pub is : z ≡ refuse_given c q
+  pub ends : why ≡ Given c q
+
 -- h is where rule j of the second deck was found
 module _ (edition : ℕ) (s : List ℕ) (j : ℕ) {h : Spot} where
   module _ (f : Site) (k : ℕ) (d : List ℕ) where
     -- 34 to 45
-    pub makes_given : {u r : Outcome} {c : Fault} {q : ℕ} → h ≡ located (λ xs. j) (read_deck edition s) → h ≡ Spot.No c q → u ≡ spot_says h → r ≡ in_given u → Makes edition (λ rs. k) f (insert k s j) d r d
+    pub makes_given : {u : Spot} {r : Outcome} {why : Refusal} → h ≡ located (λ xs. j) (read_deck edition s) → u ≡ in_given h → u ≡ Err why → r ≡ Err why → Makes edition (λ rs. k) f (insert k s j) d r d
     unfolding Makes edited at_second read_deck read_by
-    makes_given {c = c} {q = q} g i u w p v rs fe o =
-        let y = made_given v f.bytes d (go _ (read_as p s) (sym i ∙ (rw fe at g))) in
-        (w ∙ ap in_given (u ∙ ap spot_says i) ∙ y.0, y.1)
+    makes_given {why = why} g u i w p v rs fe o =
+        let x = go _ (read_as p s) (sym i ∙ u ∙ ap in_given (rw fe at g)) in
+        let y = made_given v f.bytes d x.is in
+        (w ∙ ap Err x.ends ∙ y.0, y.1)
       where
-        go : (F : List Rule → Plan (List Rule)) (x : Answer Deck) → Spot.No c q ≡ located (λ xs. j) x → at_second x F ≡ refuse_given c q
+        go : (F : List Rule → Plan (List Rule)) (x : Answer Deck) → Err why ≡ in_given (located (λ xs. j) x) → Second (at_second x F) why
         go F (got qs t) z = absurd (let u : ◌≡◌ {A = ℕ} 0 1 = cc in omega arith)
-        go F (refused x y) z = cc
+        go F (refused x y) z = record { c = x; q = y; is = refl; ends = (cc) }
 
-    pub makes_copies : {g : Site} (r : Outcome) (z : List ℕ) → Bytes s → h ≡ located (λ xs. j) (read_deck edition s) → h ≡ Spot.Is g → Copies f k s j g d r z → Makes edition (λ rs. k) f (insert k s j) d r z
+    pub makes_copies : {g : Site} (r : Outcome) (z : List ℕ) → Bytes s → h ≡ located (λ xs. j) (read_deck edition s) → h ≡ Ok g → Copies f k s j g d r z → Makes edition (λ rs. k) f (insert k s j) d r z
     unfolding Makes edited at_second read_deck read_by Copies
     makes_copies {g} r z bs e i C p v rs fe o = go (read_as p s) refl (sym i ∙ (rw fe at e))
       where
-        go : (x : Answer Deck) → read_as p s ≡ x → Spot.Is g ≡ located (λ xs. j) x
+        go : (x : Answer Deck) → read_as p s ≡ x → Ok g ≡ located (λ xs. j) x
             → Does v f.bytes (at_second x λ qs. pick (leb k (length rs)) (at_copy (drop j qs) λ y. become (with k rs y)) (refuse Fault.Absent 0)) d r z
         go (got a t) w y =
             let e : g ≡ site_of (λ xs. j) t a.version a.rules = cc in
             C p v rs a.version a.rules o (sound_read p s a t bs w) (ap (λ (x : Site). x.rules) e) (ap (λ (x : Site). x.start) e) (ap (λ (x : Site). x.end) e)
         go (refused x y) w u = absurd (let u : ◌≡◌ {A = ℕ} 0 1 = cc in omega arith)
 
-  pub copyable : {g : Site} → Bytes s → h ≡ located (λ xs. j) (read_deck edition s) → h ≡ Spot.Is g → Copyable s j g
+  pub copyable : {g : Site} → Bytes s → h ≡ located (λ xs. j) (read_deck edition s) → h ≡ Ok g → Copyable s j g
   unfolding read_deck read_by
   copyable {g} bs e i = by (edition_of edition) (sym i ∙ e)
     where
-      go : (p : Product) (x : Answer Deck) → read_as p s ≡ x → Spot.Is g ≡ located (λ xs. j) x → Copyable s j g
+      go : (p : Product) (x : Answer Deck) → read_as p s ≡ x → Ok g ≡ located (λ xs. j) x → Copyable s j g
       go p (got a t) w z =
           let e : g ≡ site_of (λ xs. j) t a.version a.rules = cc in
           bounds s j g p a.version a.rules (sound_read p s a t bs w) (ap (λ (x : Site). x.rules) e) (ap (λ (x : Site). x.start) e) (ap (λ (x : Site). x.end) e)
       go p (refused x y) w z = absurd (let u : ◌≡◌ {A = ℕ} 0 1 = cc in omega arith)
 
-      by : (o : Edition) → Spot.Is g ≡ located (λ xs. j) (read_by o s) → Copyable s j g
-      by (Edition.Of p) z = go p (read_as p s) refl z
-      by Edition.Unknown z = absurd (let u : ◌≡◌ {A = ℕ} 0 1 = cc in omega arith)
+      by : (o : Edition) → Ok g ≡ located (λ xs. j) (read_by o s) → Copyable s j g
+      by (Some p) z = go p (read_as p s) refl z
+      by None z = absurd (let u : ◌≡◌ {A = ℕ} 0 1 = cc in omega arith)
 
 -- where the place was found: the bounds that keep sums from wrapping
-pub found_place : (k edition n : ℕ) (d : List ℕ) {c : Spot} {f : Site} → Bytes d → c ≡ found (λ rs. k) edition n d → c ≡ Spot.Is f → Within f d × (f.start + lost k f.rules ≤ f.bytes)
+pub found_place : (k edition n : ℕ) (d : List ℕ) {c : Spot} {f : Site} → Bytes d → c ≡ found (λ rs. k) edition n d → c ≡ Ok f → Within f d × (f.start + lost k f.rules ≤ f.bytes)
 found_place k edition n d {f = f} bs g h = let y = ground (λ rs. k) edition n d bs g h in (found_within (λ rs. k) edition n d bs g h, go y.product y.version y.rs y.sits)
   where
     behind : (p : Product) (v : ℕ) (rs : List Rule) → Sits (λ rs. k) f d p v rs → k ≤ length rs → f.start + lost k f.rules ≤ f.bytes

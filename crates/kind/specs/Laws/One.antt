@@ -1,16 +1,15 @@
 -- Two rows that the promise of an identifier allows coincide: what a row says gives it back. Assumes nothing.
-use Rattle.std.specs.Prelude.{ℕ, ◌≡◌, refl, [], ◌∷◌, eqb}
+use Rattle.std.specs.Prelude.{ℕ, ◌≡◌, refl, [], ◌∷◌, eqb, Ok, Err}
 use Rattle.std.proofs.Common.{sym, ap, ◌∙◌}
 use Rattle.format.specs.declared.Fault.TheVariants as Fault
-use Rattle.format.specs.declared.Outcome.TheVariants as Outcome
+use Rattle.kind.specs.Answers.{Row}
+use Rattle.format.specs.declared.Refusal.TheVariants.{At}
 use Rattle.format.specs.Fault.{Said}
 use Rattle.format.specs.Format.{pick}
 use Rattle.kind.specs.declared.Role.{Role}
 use Rattle.kind.specs.declared.Role.TheVariants.{Condition, Action, Exception}
 use Rattle.kind.specs.declared.Kind.{Kind}
 use Rattle.kind.specs.declared.Kind.TheVariants.{Marker, Simple, WordList, Size, Dates}
-use Rattle.kind.specs.declared.Row.{Row}
-use Rattle.kind.specs.declared.Row.TheVariants.{Is, No}
 use Rattle.kind.specs.Kinds.{kind_says}
 
 abbrev role_at : ℕ → Role
@@ -25,26 +24,25 @@ kind_at n role =
     (Simple (role_at role)))))
 
 abbrev row_from : Said → Row
-row_from (Outcome.Done n, []) = No Fault.Unknown 0
-row_from (Outcome.Done n, (x ∷ [])) = No Fault.Unknown 0
-row_from (Outcome.Done n, (x ∷ (y ∷ ys))) = Is (kind_at x y)
-row_from (Outcome.No c q, vs) = No c q
-row_from (Outcome.Given c q, vs) = No c q
+row_from (Ok n, []) = Err (At Fault.Unknown 0)
+row_from (Ok n, (x ∷ [])) = Err (At Fault.Unknown 0)
+row_from (Ok n, (x ∷ (y ∷ ys))) = Ok (kind_at x y)
+row_from (Err why, vs) = Err why
 
 row_from_lem : (r : Row) → row_from (kind_says r) ≡ r
 unfolding pick
-row_from_lem (Is Marker) = refl
-row_from_lem (Is (Simple Condition)) = refl
-row_from_lem (Is (Simple Action)) = refl
-row_from_lem (Is (Simple Exception)) = refl
-row_from_lem (Is WordList) = refl
-row_from_lem (Is (Size Condition)) = refl
-row_from_lem (Is (Size Action)) = refl
-row_from_lem (Is (Size Exception)) = refl
-row_from_lem (Is (Dates Condition)) = refl
-row_from_lem (Is (Dates Action)) = refl
-row_from_lem (Is (Dates Exception)) = refl
-row_from_lem (No c q) = refl
+row_from_lem (Ok Marker) = refl
+row_from_lem (Ok (Simple Condition)) = refl
+row_from_lem (Ok (Simple Action)) = refl
+row_from_lem (Ok (Simple Exception)) = refl
+row_from_lem (Ok WordList) = refl
+row_from_lem (Ok (Size Condition)) = refl
+row_from_lem (Ok (Size Action)) = refl
+row_from_lem (Ok (Size Exception)) = refl
+row_from_lem (Ok (Dates Condition)) = refl
+row_from_lem (Ok (Dates Action)) = refl
+row_from_lem (Ok (Dates Exception)) = refl
+row_from_lem (Err why) = refl
 
 pub kind_one : (r q : Row) → kind_says r ≡ kind_says q → r ≡ q
 kind_one r q e = sym (row_from_lem r) ∙ ap row_from e ∙ row_from_lem q

@@ -1,26 +1,13 @@
-use native.Mathlib.Omega.{arith}
-use mathlib.Core.Path.{refl, sym, ap}
-use Rattle.moment.specs.Moment.{moment_says, Says}
-use Rattle.lent_moment.specs.Laws.Narrow.{moment_narrow}
-use Rattle.lent.specs.Laws.Lent.{lent_row, lent_no}
+use borrow.Author.Rules.{rules}
+use Rattle.std.proofs.Common.{refl}
+use Rattle.moment.specs.Moment.{Says}
+use Rattle.lent.specs.Laws.Lent.{lent_no}
 use Rattle.lent_moment.proofs.moment.Goals as goal
 
-pub overflow_cast-c : goal.overflow_cast-c
-overflow_cast-c c = let n = moment_narrow _ _ _ c.moment_of-m.ensures c.in-At.is in omega (arith, n.year, n.month, n.day, n.of_day)
-
-pub overflow_cast-c-in-At : goal.overflow_cast-c-in-At
-overflow_cast-c-in-At c = let n = moment_narrow _ _ _ c.moment_of-m.ensures c.in-At.is in omega (arith, n.year, n.month, n.day, n.of_day)
-
-pub overflow_cast-c-in-At-2 : goal.overflow_cast-c-in-At-2
-overflow_cast-c-in-At-2 c = let n = moment_narrow _ _ _ c.moment_of-m.ensures c.in-At.is in omega (arith, n.year, n.month, n.day, n.of_day)
-
-pub overflow_cast-second : goal.overflow_cast-second
-overflow_cast-second c = let n = moment_narrow _ _ _ c.moment_of-m.ensures c.in-At.is in omega (arith, n.year, n.month, n.day, n.of_day)
-
-pub returns-in-At : goal.returns-in-At
+pub returns-in_err-date : goal.returns-in_err-date
 unfolding Says
-returns-in-At c = (_, (c.moment_of-m.ensures, lent_row _ _ _ c.put_row.ensures (ap moment_says (sym c.in-At.is)) refl))
+returns-in_err-date c = (_, (c.in_err-date.ensures, lent_no _ _ refl (search (rules, c.in_err-date.was))))
 
-pub returns-in-No : goal.returns-in-No
+pub returns : goal.returns
 unfolding Says
-returns-in-No c = (_, (c.moment_of-m.ensures, lent_no _ _ _ _ (ap moment_says (sym c.in-No.is)) refl))
+returns c = (_, (c.in_ok-date.ensures, c.put_row.ensures))

@@ -1,15 +1,17 @@
 -- The word list that is the last element of a rule, and where the number of its words stands.
-use Rattle.std.specs.Prelude.{ℕ, ◌+◌, ◌-◌, ◌≡◌, refl, Bool, true, false, List, [], ◌∷◌, ◌++◌, length, take, drop, eqb}
+use Rattle.std.specs.Prelude.{ℕ, ◌+◌, ◌-◌, ◌≡◌, refl, Bool, true, false, List, [], ◌∷◌, ◌++◌, length, take, drop, eqb, Ok, Err}
 use Rattle.std.proofs.Common.{arith, sym, ◌∙◌, append_assoc, length-append, drop_of_length-le, drop-drop}
 use Rattle.std.proofs.Math.Path.{ap}
 use Rattle.format.specs.declared.Fault.{Fault}
-use Rattle.format.specs.declared.Read.{Read}
-use Rattle.format.specs.declared.Read.TheVariants.{Got, No}
+use Rattle.format.specs.Answers.{Read}
+use Rattle.kind.specs.Answers.{Row}
+use Rattle.format.specs.declared.Refusal.{Refusal}
+use Rattle.format.specs.declared.Refusal.TheVariants.{At}
 use Rattle.format.specs.Format.{pick}
 use Rattle.format.specs.ReadWrite.{pair_write, spelt, each_write}
 use Rattle.format.specs.Laws.ReadWrite.{length_spelt, length_before}
 use Rattle.format.specs.Combinators.{pair, judged, via, seq, ◌then◌, number, fixed, count, each, counted, listed}
-use Rattle.format.specs.Laws.Seen.{seen, itself, unlike}
+use Rattle.format.specs.Laws.Seen.{seen, itself, unlike, ok_parts}
 use Rattle.format.specs.Laws.Written.{Held}
 use Rattle.format.specs.Laws.Back.{Where, back_got, back_no}
 use Rattle.format.specs.Row.{start_in}
@@ -18,7 +20,6 @@ use Rattle.text.specs.Text.{word, Text}
 use Rattle.kind.specs.declared.Product.{Product}
 use Rattle.kind.specs.declared.Kind.{Kind}
 use Rattle.kind.specs.declared.Role.TheVariants as Role
-use Rattle.kind.specs.declared.Row.{Row}
 use Rattle.kind.specs.Kinds.{kinds, row_in}
 use Rattle.element.specs.Data.{Data, plain, words, sizes, span, of_words, words_of, data_of, word_data}
 use Rattle.element.specs.Laws.Data.{Other, words_none, list_parts}
@@ -34,47 +35,50 @@ use Rattle.plan.specs.Edit.{Plan, refuse, at_list}
 
 -- the number of words of a list whose data start at a place, and where it stands; other data are no list
 abbrev pub list_of : ℕ → Data → Read
-list_of at d = of_words (No 0 Fault.Last) (λ ws. Got at (length ws)) d
+list_of at d = of_words (Err (At Fault.Last 0)) (λ ws. Ok (at, length ws)) d
 
 -- of the last element of rule k, which starts at a place
 abbrev pub last_list : Product → ℕ → ℕ → Rule → Read
-last_list p k at r = of_element (No 0 Fault.Last) list_of p k (length r.elements - 1) at r
+last_list p k at r = of_element (Err (At Fault.Last 0)) list_of p k (length r.elements - 1) at r
 
 -- ---- as the code finds it
 
+abbrev counted_at : ℕ → ℕ → Read
+counted_at at n = Ok (at, n)
+
 module _ (s : List ℕ) (at : ℕ) {z : Read} (e : z ≡ seen itself (number 4) s at) where
-  pub list_cut : (r : Read) {c : Fault} {q : ℕ} → z ≡ No q c → Where word_data s at (list_of at) r
+  pub list_cut : (r : Read) {why : Refusal} → z ≡ Err why → Where word_data s at (list_of at) r
   unfolding Where
   list_cut r h x b = back_no itself (number 4) s at (list_parts s at x b.0 b.1).0.1 e h
 
-  pub list_is : {n q : ℕ} → z ≡ Got q n → Where word_data s at (list_of at) (Got at n)
+  pub list_is : {n q : ℕ} → z ≡ Ok (q, n) → Where word_data s at (list_of at) (Ok (at, n))
   unfolding Where word_data via
-  list_is h x b = ap (λ (m : ℕ). Got at m) (back_got itself (number 4) s at (list_parts s at x b.0 b.1).0.1 e h).0 ∙ ap (list_of at) b.1.fit.1
+  list_is h x b = ap (counted_at at) (back_got itself (number 4) s at (list_parts s at x b.0 b.1).0.1 e h).0 ∙ ap (list_of at) b.1.fit.1
 
-pub list_other : (k : Kind) (s : List ℕ) (at : ℕ) → Other k → Where (data_of k) s at (list_of at) (No 0 Fault.Last)
+pub list_other : (k : Kind) (s : List ℕ) (at : ℕ) → Other k → Where (data_of k) s at (list_of at) (Err (At Fault.Last 0))
 unfolding Where
-list_other k s at o x b = sym (words_none (No 0 Fault.Last) (λ ws. Got at (length ws)) k x b.1.fit o)
+list_other k s at o x b = sym (words_none {W = Read} (Err (At Fault.Last 0)) (λ ws. counted_at at (length ws)) k x b.1.fit o)
 
 module _ (p : Product) (s : List ℕ) (at k : ℕ) (r : Read) {c : Read} (i : Elements s at k c) where
-  pub last_list_cut : {f : Fault} {q : ℕ} → c ≡ No q f → Where (rule p k) s at (last_list p k at) r
+  pub last_list_cut : {why : Refusal} → c ≡ Err why → Where (rule p k) s at (last_list p k at) r
   unfolding Where
   last_list_cut h x b = elements_none p s at k x b i h
 
-  module _ {n q : ℕ} (h : c ≡ Got q n) where
+  module _ {n q : ℕ} (h : c ≡ Ok (q, n)) where
     -- never, of a rule
     pub last_list_none : n ≡ 0 → Where (rule p k) s at (last_list p k at) r
     unfolding Where
     last_list_none e x b = absurd (omega (arith, (elements_are p s at k x b i h).0, (rule_fits p k x b.1.fit).0))
 
-    pub last_list_never : {z : Read} {f : Fault} {o : ℕ} → (n ≡ 0 → ⊥) → Skipped (placed p) s q (n - 1) (n - 1) z → z ≡ No o f → Where (rule p k) s at (last_list p k at) r
+    pub last_list_never : {z : Read} {why : Refusal} → (n ≡ 0 → ⊥) → Skipped (placed p) s q (n - 1) (n - 1) z → z ≡ Err why → Where (rule p k) s at (last_list p k at) r
     unfolding Where
     last_list_never e g j x b = element_never p s at k x b i h (n - 1) _ (omega arith) g j
 
-    pub last_list_is : {z : Read} {u o : ℕ} → (n ≡ 0 → ⊥) → Skipped (placed p) s q (n - 1) (n - 1) z → z ≡ Got o u → Carries p s o (n - 1) list_of r → Where (rule p k) s at (last_list p k at) r
+    pub last_list_is : {z : Read} {u o : ℕ} → (n ≡ 0 → ⊥) → Skipped (placed p) s q (n - 1) (n - 1) z → z ≡ Ok (o, u) → Carries p s o (n - 1) list_of r → Where (rule p k) s at (last_list p k at) r
     unfolding Where
     last_list_is e g j m x b =
-        of_element_lem p s at k x b i h (n - 1) _ (omega arith) g (No 0 Fault.Last) list_of r j m
-        ∙ ap (λ (l : ℕ). of_element (No 0 Fault.Last) list_of p k (l - 1) at x) (elements_are p s at k x b i h).0
+        of_element_lem p s at k x b i h (n - 1) _ (omega arith) g (Err (At Fault.Last 0)) list_of r j m
+        ∙ ap (λ (l : ℕ). of_element (Err (At Fault.Last 0)) list_of p k (l - 1) at x) (elements_are p s at k x b i h).0
 
 -- ---- what it tells of the rule's elements
 
@@ -91,7 +95,7 @@ leading_long j id = go (eqb j 0)
     go false = omega (arith, length_before 2 0x8001 (spelt 4 id), length_spelt 4 id)
 
 -- a list as it is written: the number of words, the words
-pub list_written : (p : Product) (j id : ℕ) (ws : List Text) → row_in kinds id ≡ Row.Is Kind.WordList → (placed p j).write (id, words ws) ≡ leading j id ++ (spelt 4 (length ws) ++ each_write (λ i. word) 0 ws)
+pub list_written : (p : Product) (j id : ℕ) (ws : List Text) → row_in kinds id ≡ Ok Kind.WordList → (placed p j).write (id, words ws) ≡ leading j id ++ (spelt 4 (length ws) ++ each_write (λ i. word) 0 ws)
 unfolding leading placed pick fixed ◌then◌ seq element identifier judged pair pair_write number word_data listed counted via each count
 list_written p j id ws e = go (eqb j 0)
   where
@@ -104,21 +108,21 @@ pub record EndsInList (k e : ℕ) (els : List Element) (c t : ℕ) : Type 0 wher
   pub id : ℕ
   pub ws : List Text
   pub is : drop (length els - 1) els ≡ (id, words ws) ∷ []
-  pub row : row_in kinds id ≡ Row.Is Kind.WordList
+  pub row : row_in kinds id ≡ Ok Kind.WordList
   pub many : c ≡ length ws
   pub place : e + 26 + length (head_bytes k) + length (inner (take (length els - 1) els) ++ leading (length els - 1) id) ≡ t
 
 -- data that tell of words are a list's
-words_are : (at : ℕ) (r : Row) (x : Data) {c t : ℕ} → (data_by r).Fit x → list_of at x ≡ Got t c → (r ≡ Row.Is Kind.WordList) × ((x ≡ words (words_of x)) × ((c ≡ length (words_of x)) × (t ≡ at)))
+words_are : (at : ℕ) (r : Row) (x : Data) {c t : ℕ} → (data_by r).Fit x → list_of at x ≡ Ok (t, c) → (r ≡ Ok Kind.WordList) × ((x ≡ words (words_of x)) × ((c ≡ length (words_of x)) × (t ≡ at)))
 unfolding word_data via
-words_are at (Row.Is Kind.Marker) x f h = unlike h (words_none _ _ Kind.Marker x f tt)
-words_are at (Row.Is (Kind.Simple r)) x f h = unlike h (words_none _ _ (Kind.Simple r) x f tt)
-words_are at (Row.Is Kind.WordList) x {c} {t} f h = let z : Got t c ≡ Got at (length (words_of x)) = sym h ∙ sym (ap (list_of at) f.1) in (refl, (sym f.1, ((cc), (cc))))
-words_are at (Row.Is (Kind.Size r)) x f h = unlike h (words_none _ _ (Kind.Size r) x f tt)
-words_are at (Row.Is (Kind.Dates r)) x f h = unlike h (words_none _ _ (Kind.Dates r) x f tt)
-words_are at (Row.No c q) x f h = unlike h (words_none _ _ (Kind.Simple Role.Condition) x f tt)
+words_are at (Ok Kind.Marker) x f h = unlike h (words_none _ _ Kind.Marker x f tt)
+words_are at (Ok (Kind.Simple r)) x f h = unlike h (words_none _ _ (Kind.Simple r) x f tt)
+words_are at (Ok Kind.WordList) x {c} {t} f h = let z = ok_parts (sym h ∙ sym (ap (list_of at) f.1)) in (refl, (sym f.1, (z.1, z.0)))
+words_are at (Ok (Kind.Size r)) x f h = unlike h (words_none _ _ (Kind.Size r) x f tt)
+words_are at (Ok (Kind.Dates r)) x f h = unlike h (words_none _ _ (Kind.Dates r) x f tt)
+words_are at (Err why) x f h = unlike h (words_none _ _ (Kind.Simple Role.Condition) x f tt)
 
-pub ends_in_list : (p : Product) (s : List ℕ) (at k e : ℕ) (x : Rule) {c t : ℕ} → Held (rule p k) s at x → e ≡ enabled_at at x → last_list p k at x ≡ Got t c → EndsInList k e x.elements c t
+pub ends_in_list : (p : Product) (s : List ℕ) (at k e : ℕ) (x : Rule) {c t : ℕ} → Held (rule p k) s at x → e ≡ enabled_at at x → last_list p k at x ≡ Ok (t, c) → EndsInList k e x.elements c t
 unfolding start_in head_bytes
 ends_in_list p s at k e x b ee h =
     let els = x.elements in
@@ -127,7 +131,7 @@ ends_in_list p s at k e x b ee h =
     let l = (rule_fits p k x b.1.fit).0 in
     let y = nth (placed p) s (elements_at p k at x) j a els b.0 refl (rule_elements p k s at x b.0 b.1) (omega arith) in
     let id = y.x.0 in
-    let w = words_are (data_at j a) (row_in kinds id) y.x.1 (placed_parts p j s a y.x y.tail y.stands).carries.fit (sym (ap (of_first (No 0 Fault.Last) list_of j a) y.whole) ∙ h) in
+    let w = words_are (data_at j a) (row_in kinds id) y.x.1 (placed_parts p j s a y.x y.tail y.stands).carries.fit (sym (ap (of_first (Err (At Fault.Last 0)) list_of j a) y.whole) ∙ h) in
     let nil : y.ys ≡ [] = sym (ap (drop 1) y.whole) ∙ drop-drop 1 j els ∙ drop_of_length-le els {i = j + 1} (omega arith) in
     record {
       id = id;
@@ -139,13 +143,13 @@ ends_in_list p s at k e x b ee h =
     }
 
 -- other elements are none
-no_list : {A : Type 0} {c : Fault} {q : ℕ} → No 0 Fault.Last ≡ No q c → ◌≡◌ {A = Plan A} (refuse Fault.Last 0) (refuse c q)
-no_list {c} {q} h = let e : c ≡ Fault.Last = cc in let z : q ≡ 0 = cc in rw (e, z)
+no_list : {why : Refusal} → ◌≡◌ {A = Read} (Err (At Fault.Last 0)) (Err why) → why ≡ At Fault.Last 0
+no_list h = cc
 
-pub list_none : {A : Type 0} (j at : ℕ) (xs : List Element) {c : Fault} {q : ℕ} → of_first (No 0 Fault.Last) list_of j at xs ≡ No q c → (g : ℕ → List Text → Plan A) → at_list xs g ≡ refuse c q
+pub list_none : {A : Type 0} (j at : ℕ) (xs : List Element) {why : Refusal} → of_first (Err (At Fault.Last 0)) list_of j at xs ≡ Err why → (g : ℕ → List Text → Plan A) → (why ≡ At Fault.Last 0) × (at_list xs g ≡ refuse Fault.Last 0)
 unfolding at_list
-list_none j at [] h g = no_list h
-list_none j at ((id, plain) ∷ xs) h g = no_list h
+list_none j at [] h g = (no_list h, refl)
+list_none j at ((id, plain) ∷ xs) h g = (no_list h, refl)
 list_none j at ((id, words ws) ∷ xs) h g = unlike refl h
-list_none j at ((id, sizes a b) ∷ xs) h g = no_list h
-list_none j at ((id, span a b) ∷ xs) h g = no_list h
+list_none j at ((id, sizes a b) ∷ xs) h g = (no_list h, refl)
+list_none j at ((id, span a b) ∷ xs) h g = (no_list h, refl)

@@ -1,17 +1,16 @@
 -- Laws of ../Listed.antt: as the code finds a deck's version, a row's numbers and a rule's state; the lines of a version and a row that are known.
-use Rattle.std.specs.Prelude.{ℕ, ◌+◌, ◌-◌, ◌*◌, ◌/◌, ◌≤◌, ◌≡◌, refl, Bool, false, List, ◌∷◌, length, drop}
+use Rattle.std.specs.Prelude.{ℕ, ◌+◌, ◌-◌, ◌*◌, ◌/◌, ◌≤◌, ◌≡◌, refl, Bool, false, List, ◌∷◌, length, drop, Ok, Err}
 use Rattle.std.proofs.Common.{arith, ◌∙◌}
 use Rattle.std.proofs.Math.Path.{sym, ap}
 use Rattle.std.proofs.Math.Dec.{eqb}
 use Rattle.std.proofs.Math.ListN.{get_or-eq_default}
-use Rattle.format.specs.declared.Fault.{Fault}
-use Rattle.format.specs.declared.Read.{Read}
-use Rattle.format.specs.declared.Read.TheVariants.{Got, No}
+use Rattle.format.specs.Answers.{Read}
+use Rattle.format.specs.declared.Refusal.{Refusal}
 use Rattle.format.specs.Format.{got}
 use Rattle.format.specs.ReadWrite.{bit}
 use Rattle.format.specs.Laws.ReadWrite.{eqb_bit}
 use Rattle.format.specs.Combinators.{number}
-use Rattle.format.specs.Laws.Seen.{seen, itself, told_got, told_no}
+use Rattle.format.specs.Laws.Seen.{seen, itself, told_got, told_why}
 use Rattle.line.specs.Line.{deck_line, rule_line, element_line, Lined}
 use Rattle.listed.specs.Listed.{entry, version_in, deck_listed, is_on, rule_listed, element_listed}
 
@@ -20,22 +19,22 @@ pub entry_none : (row : List ℕ) (j : ℕ) → length row ≤ j → 0 ≡ entry
 entry_none row j h = sym (get_or-eq_default row 0 h)
 
 module _ (s : List ℕ) (at : ℕ) {r : Read} (e : r ≡ seen itself (number 2) s at) where
-  pub version_is : {v m : ℕ} → r ≡ Got m v → v ≡ version_in ((number 2).read (drop at s))
+  pub version_is : {v m : ℕ} → r ≡ Ok (m, v) → v ≡ version_in ((number 2).read (drop at s))
   unfolding seen
   version_is h = let g = told_got at itself ((number 2).read (drop at s)) e h in g.tells ∙ sym (ap version_in g.is)
 
-  pub version_none : {c : Fault} {m : ℕ} → r ≡ No m c → 0 ≡ version_in ((number 2).read (drop at s))
+  pub version_none : {why : Refusal} → r ≡ Err why → 0 ≡ version_in ((number 2).read (drop at s))
   unfolding seen
-  version_none h = sym (ap version_in (told_no at itself ((number 2).read (drop at s)) e h).is)
+  version_none h = sym (ap version_in (told_why at itself ((number 2).read (drop at s)) e h).is)
 
 module _ (s : List ℕ) (at : ℕ) {r : Read} (e : r ≡ seen itself (number 4) s at) where
-  pub on_is : {v m : ℕ} → r ≡ Got m v → eqb v 1 ≡ is_on ((number 4).read (drop at s))
+  pub on_is : {v m : ℕ} → r ≡ Ok (m, v) → eqb v 1 ≡ is_on ((number 4).read (drop at s))
   unfolding seen
   on_is h = let g = told_got at itself ((number 4).read (drop at s)) e h in ap (λ (x : ℕ). eqb x 1) g.tells ∙ sym (ap is_on g.is)
 
-  pub on_none : {c : Fault} {m : ℕ} → r ≡ No m c → false ≡ is_on ((number 4).read (drop at s))
+  pub on_none : {why : Refusal} → r ≡ Err why → false ≡ is_on ((number 4).read (drop at s))
   unfolding seen
-  on_none h = sym (ap is_on (told_no at itself ((number 4).read (drop at s)) e h).is)
+  on_none h = sym (ap is_on (told_why at itself ((number 4).read (drop at s)) e h).is)
 
 module _ {d y : List ℕ} {r : ℕ} where
   pub deck_listed_lem : (s : List ℕ) {v : ℕ} → v ≡ version_in ((number 2).read (drop 3 s)) → Lined d (deck_line v (length s)) r y → Lined d (deck_listed s) r y

@@ -5,11 +5,11 @@ use Rattle.locate.proofs.spot_of.Goals as goal
 pub returns-then-n-k : goal.returns-then-n-k
 returns-then-n-k c = search (rules, spots_past)
 
-pub returns-in_default : goal.returns-in_default
-returns-in_default c = search (rules, spots_unreached)
+pub returns-in_err-start : goal.returns-in_err-start
+returns-in_err-start c = search (rules, spots_unreached, c.in_err-start.was)
 
-pub returns-in_default-e : goal.returns-in_default-e
-returns-in_default-e c = search (rules, spots_unended)
+pub returns-in_err-end : goal.returns-in_err-end
+returns-in_err-end c = search (rules, spots_unended, c.in_ok-start.was, c.in_err-end.was)
 
 pub returns : goal.returns
-returns c = search (rules, spots_is)
+returns c = search (rules, spots_is, c.in_ok-start.was, c.in_ok-end.was)

@@ -1,12 +1,12 @@
 -- Where a rule stands: document 01, "Tables and views": "start, end".
-use Rattle.std.specs.Prelude.{ℕ, ◌+◌, ◌-◌, List, length}
+use Rattle.std.specs.Prelude.{ℕ, ◌+◌, ◌-◌, List, length, Ok, Err}
 use Rattle.format.specs.Format.{Answer, got, refused}
 use Rattle.rule.specs.Rule.{Rule}
 use Rattle.deck.specs.Deck.{Deck, base_of}
 use Rattle.deck.specs.Written.{start_of}
 use Rattle.spot.specs.declared.Site.{Site}
-use Rattle.spot.specs.declared.Spot.{Spot}
-use Rattle.spot.specs.declared.Spot.TheVariants.{Is, No}
+use Rattle.spot.specs.Answers.{Spot}
+use Rattle.format.specs.declared.Refusal.TheVariants.{At}
 
 -- the number of the last rule
 abbrev pub last_of : List Rule → ℕ
@@ -17,5 +17,5 @@ abbrev pub site_of : (List Rule → ℕ) → ℕ → ℕ → List Rule → Site
 site_of k n v rs = record { bytes = n; version = v; rules = length rs; base = base_of v (length rs); start = start_of v rs (k rs); end = start_of v rs (k rs + 1) }
 
 abbrev pub located : (List Rule → ℕ) → Answer Deck → Spot
-located k (got d n) = Is (site_of k n d.version d.rules)
-located k (refused c q) = No c q
+located k (got d n) = Ok (site_of k n d.version d.rules)
+located k (refused c q) = Err (At c q)

@@ -14,7 +14,7 @@ pub overflow_add-p : goal.overflow_add-p
 overflow_add-p c = omega (arith, c.if-rules-gt256.false)
 
 pub loop-i-init : goal.loop-i-init
-loop-i-init c = (puts_start _ _, (search rules, refl))
+loop-i-init c = (puts_start _ _, refl)
 
 pub overflow_mul-i : goal.overflow_mul-i
 overflow_mul-i c = omega (arith, c.if-rules-gt256.false, c.loop-i-test.true)
@@ -26,7 +26,7 @@ pub returns-in_default : goal.returns-in_default
 returns-in_default c = puts_never _ _ _ _ _ _ _ c.loop-i-test.true c.loop-i.invariant.0 c.put_number.ensures c.end_of-r.ensures c.in_default.is
 
 pub loop-i-preserved : goal.loop-i-preserved
-loop-i-preserved c = (puts_go _ _ _ _ _ _ c.loop-i-test.true c.loop-i.invariant.0 c.put_number.ensures c.end_of-r.ensures c.in-Got.is, (omega (arith, c.loop-i-test.true), c.put_number.auto.buf ∙ c.loop-i.invariant.1.1))
+loop-i-preserved c = (puts_go _ _ _ _ _ _ c.loop-i-test.true c.loop-i.invariant.0 c.put_number.ensures c.end_of-r.ensures c.in-Ok.is, c.put_number.auto.buf ∙ c.loop-i.invariant.1)
 
 pub returns : goal.returns
-returns c = puts_done _ _ _ _ _ (omega (arith, c.loop-i-test.false)) c.loop-i.invariant.1.0 c.loop-i.invariant.0
+returns c = puts_done _ _ _ _ _ (omega (arith, c.loop-i-test.false)) (omega arith) c.loop-i.invariant.0

@@ -1,11 +1,7 @@
-use Prim.Native.Nat.{◌-◌, ◌≤◌}
 use mathlib.Core.Path.{◌≡◌}
 use lib.ListN.{length}
 use Rattle.offsets.specs.Laws.Offsets.{Puts}
 use Rattle.offsets.proofs.put_offsets.Given as goal
 
 abbrev pub invariant-loop-i : goal.invariant-loop-i
-invariant-loop-i l = Puts l.rules l.i l.p l.initial.buf l.buf × ((l.i ≤ l.rules) × (length l.buf ≡ length l.initial.buf))
-
-abbrev pub decreases-loop-i : goal.decreases-loop-i
-decreases-loop-i l = l.rules - l.i
+invariant-loop-i l = Puts l.rules l.i l.p l.initial.buf l.buf × (length l.buf ≡ length l.initial.buf)

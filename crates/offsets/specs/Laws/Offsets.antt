@@ -1,5 +1,5 @@
 -- The offsets of the rules of a deck of version 2, put one after the other from the Data Sizes.
-use Rattle.std.specs.Prelude.{ℕ, zero, suc, ◌+◌, ◌-◌, ◌*◌, ◌≤◌, ◌<◌, ◌≡◌, refl, take}
+use Rattle.std.specs.Prelude.{ℕ, zero, suc, ◌+◌, ◌-◌, ◌*◌, ◌≤◌, ◌<◌, ◌≡◌, refl, take, Ok, Err}
 use Rattle.std.proofs.Common.{add-zero, arith, sym, ◌∙◌, take-append-drop}
 use Rattle.std.proofs.Math.Nat.{zero-add}
 use Rattle.std.proofs.Math.Path.{ap}
@@ -7,8 +7,9 @@ use mathlib.Core.List.{List, [], ◌∷◌, ◌++◌, append_assoc, append-nil}
 use Rattle.std.proofs.Math.ListN.{length, drop, length-append, length-drop}
 use Rattle.std.proofs.Math.Seq.{length-take-le, drop_at}
 use Rattle.format.specs.declared.Fault.{Fault}
-use Rattle.format.specs.declared.Read.{Read}
-use Rattle.format.specs.declared.Read.TheVariants.{Got, No}
+use Rattle.format.specs.Answers.{Read}
+use Rattle.format.specs.declared.Refusal.{Refusal}
+use Rattle.format.specs.declared.Refusal.TheVariants.{At}
 use Rattle.format.specs.ReadWrite.{spelt, each_write, AllFit}
 use Rattle.format.specs.Laws.ReadWrite.{length_spelt, all_drop}
 use Rattle.format.specs.Index.{index_write}
@@ -129,14 +130,14 @@ module _ (m i p : ℕ) (y z z₁ : List ℕ) where
         one : (i : ℕ) (x : Rule) → length (rules i (x ∷ [])) ≡ rule_bytes k i x
         one i x = ap length (rules_one k i x)
 
-  pub puts_go : {r : Read} {q v : ℕ} → i < m → Puts m i p y z → z₁ ≡ put_in z (7 + 4 * i) (spelt 4 p) → Follows z₁ p r → r ≡ Got q v → Puts m (i + 1) q y z₁
+  pub puts_go : {r : Read} {q v : ℕ} → i < m → Puts m i p y z → z₁ ≡ put_in z (7 + 4 * i) (spelt 4 p) → Follows z₁ p r → r ≡ Ok (q, v) → Puts m (i + 1) q y z₁
   unfolding Puts Where
   puts_go {q = q} l w e g h k xs P G d hi lp lg em f s =
       let o = w k xs P G d hi lp lg em f s in
       let x = next_rule i xs (omega arith) in
       put_more k xs P d hi lp em f l o e x.0 x.1.0 x.1.1 q (follows_got z₁ p g k i h x.0 (stands k xs P d hi lp em f l o e x.0 x.1.0 x.1.1))
 
-  pub puts_never : (u : List ℕ) {r : Read} {c : Fault} {q : ℕ} → i < m → Puts m i p y z → z₁ ≡ put_in z (7 + 4 * i) (spelt 4 p) → Follows z₁ p r → r ≡ No q c → Offsets m y u
+  pub puts_never : (u : List ℕ) {r : Read} {why : Refusal} → i < m → Puts m i p y z → z₁ ≡ put_in z (7 + 4 * i) (spelt 4 p) → Follows z₁ p r → r ≡ Err why → Offsets m y u
   unfolding Puts Offsets
   puts_never u l w e g h k xs P G d hi few lp lg em f s =
       let o = w k xs P G d hi lp lg em f s in

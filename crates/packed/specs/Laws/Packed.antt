@@ -1,7 +1,7 @@
 -- Where no place is above 60,000, an outcome packed into 64 bits is whole.
 use Rattle.std.specs.Prelude.{ℕ, ◌%◌, ◌^◌, ◌≤◌, ◌≡◌}
 use Rattle.std.proofs.Common.{arith, ap, ◌∙◌}
-use Rattle.format.specs.declared.Outcome.{Outcome}
+use Rattle.format.specs.Answers.{Outcome}
 use Rattle.format.specs.Fault.{place_of, packed}
 use Rattle.format.specs.Laws.Fault.{code_small}
 

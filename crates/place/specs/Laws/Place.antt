@@ -2,7 +2,7 @@
 use Prim.Native.Nat.{ℕ, zero, suc, ◌+◌, ◌-◌, ◌≤◌, ◌<◌, max}
 use native.Mathlib.Omega.{arith}
 use Rattle.std.proofs.Math.Decide.{dec_lt}
-use Rattle.std.specs.Prelude.{◌≡◌, Bool, eqb, drop}
+use Rattle.std.specs.Prelude.{◌≡◌, Bool, eqb, drop, Err}
 use Rattle.std.proofs.Math.Path.{refl, sym, ap}
 use Rattle.std.proofs.Common.{◌∙◌, length-append, length-drop, take-append-drop, length-take-le}
 use Rattle.std.proofs.Math.Bool.{true, false}
@@ -12,8 +12,8 @@ use borrow.Author.Tests.{eq-eqb, ne_eqb}
 use Rattle.format.specs.Format.{pick}
 use Rattle.format.specs.ReadWrite.{spelt, each_write}
 use Rattle.format.specs.Laws.ReadWrite.{length_spelt}
-use Rattle.format.specs.declared.Fault.{Fault}
-use Rattle.format.specs.declared.Read.{Read}
+use Rattle.format.specs.Answers.{Read}
+use Rattle.format.specs.declared.Refusal.{Refusal}
 use Rattle.text.specs.Text.{string}
 use Rattle.kind.specs.declared.Product.{Product}
 use Rattle.rule.specs.Rule.{Rule}
@@ -204,7 +204,7 @@ module _ (f : Site) (len : ℕ) (d : List ℕ) where
   there p v rs o l = here p v (take f.bytes d) rs 0 o.sound (omega (arith, o.many))
 
   -- its name can be read
-  pub opens_unnamed : {t : Read} {c : Fault} {q : ℕ} → t ≡ name_read d f.base → t ≡ Read.No q c → 0 < f.rules → Opens f 0 len d d
+  pub opens_unnamed : {t : Read} {why : Refusal} → t ≡ name_read d f.base → t ≡ Err why → 0 < f.rules → Opens f 0 len d d
   unfolding Opens
   opens_unnamed g i l p v rs o k h x r = name_there f.bytes d (there p v rs o l) (g ∙ ap (name_read d) (o.base ∙ sym (start_first v rs))) i
 

@@ -1,11 +1,11 @@
 -- What is left to do once the rules of the edited list stand in the buffer, behind what stood before those that were found.
 use Prim.Native.Nat.{ℕ, ◌+◌, ◌-◌, ◌*◌, ◌^◌, ◌≤◌, ◌<◌, max}
-use Rattle.std.proofs.Common.{zero-mul, arith, ◌∙◌, take_all}
+use Rattle.std.proofs.Common.{zero-mul, arith, ◌∙◌, take_all, Ok}
 use Rattle.std.specs.Prelude.{◌≡◌, take}
 use Rattle.std.proofs.Math.Path.{refl, sym, ap}
 use mathlib.Core.List.{List, [], ◌∷◌, ◌++◌, append_assoc, append-nil}
 use Rattle.std.proofs.Math.ListN.{length, length-append}
-use Rattle.format.specs.declared.Outcome.{Outcome}
+use Rattle.format.specs.Answers.{Outcome}
 use Rattle.format.specs.ReadWrite.{spelt, AllFit}
 use Rattle.format.specs.Laws.ReadWrite.{length_spelt}
 use Rattle.kind.specs.declared.Product.{Product}
@@ -141,17 +141,17 @@ finish_two f m n y r y' e w = w f e refl
 -- so an edit is done
 module _ {k : List Rule → ℕ} (f : Site) (m n len : ℕ) (d : List ℕ) (p : Product) (v : ℕ) (rs : List Rule) (o : Sits k f d p v rs) {q : Plan (List Rule)} {xs : List Rule} {y y' : List ℕ} (r : ℕ) where
   pub made_finished : Every (Fits p) xs → Roomy m len (length d) → Finishes f m n y r y' → Holds y (lead v rs ++ rules 0 xs) (max f.bytes n) d → n ≡ length (lead v rs ++ rules 0 xs) → n ≤ max f.bytes len → q ≡ become xs → m ≡ length xs → len ≡ length (written v xs)
-      → (r ≡ len) × Does v f.bytes q d (Outcome.Done r) y'
+      → (r ≡ len) × Does v f.bytes q d (Ok r) y'
   unfolding Finishes
   made_finished fit w g h en l e em el =
       let u = g p v rs xs d (max f.bytes n) o.version o.many o.base em en fit (rw el at w) h in
       (u.0 ∙ sym el, made_is v f.bytes d u.1 e refl (sym u.0) (omega (arith, u.0, el)) (omega (arith, w.few)) (omega (arith, w.short, u.0, el)))
 
   -- t is what 18, 19 and 20 were judged as
-  pub made_finish : {t : Outcome} {u : ℕ} → Every (Fits p) xs → t ≡ room_for m len (length d) → t ≡ Outcome.Done u → Finishes f m n y r y' → Holds y (lead v rs ++ rules 0 xs) (max f.bytes n) d → n ≡ length (lead v rs ++ rules 0 xs) → n ≤ max f.bytes len → q ≡ become xs → m ≡ length xs → len ≡ length (written v xs)
+  pub made_finish : {t : Outcome} {u : ℕ} → Every (Fits p) xs → t ≡ room_for m len (length d) → t ≡ Ok u → Finishes f m n y r y' → Holds y (lead v rs ++ rules 0 xs) (max f.bytes n) d → n ≡ length (lead v rs ++ rules 0 xs) → n ≤ max f.bytes len → q ≡ become xs → m ≡ length xs → len ≡ length (written v xs)
       → Does v f.bytes q d t y'
   made_finish {t} fit e h g i en l j em el =
       let w = roomy m len (length d) e h in
       let x = made_finished fit w g i en l j em el in
-      let z : t ≡ Outcome.Done r = e ∙ sym (room_is m len (length d) w.few w.short w.inside) ∙ ap Outcome.Done (sym x.0) in
+      let z : t ≡ Ok r = e ∙ sym (room_is m len (length d) w.few w.short w.inside) ∙ ap Ok (sym x.0) in
       rw z x.1

@@ -1,32 +1,33 @@
 -- An edit's deck found in its buffer, and what is left to do: the edits' promise, from what they make of a sound deck.
-use Rattle.std.specs.Prelude.{ℕ, ◌+◌, ◌≤◌, ◌<◌, Bool, true, false, List, leb, take}
+use Rattle.std.specs.Prelude.{ℕ, ◌+◌, ◌≤◌, ◌<◌, Bool, true, false, List, leb, take, Ok, Err, Some, None}
 use Rattle.std.proofs.Common.{arith, ◌∙◌}
 use Rattle.std.proofs.Math.Path.{◌≡◌, refl, sym, ap}
 use Rattle.std.proofs.Math.ListN.{length}
 use Rattle.std.proofs.Math.Seq.{length-take-le}
 use borrow.Author.Tests.{le-leb, lt-leb, leb-true}
 use Rattle.format.specs.declared.Fault.{Fault}
-use Rattle.format.specs.declared.Outcome.{Outcome}
+use Rattle.kind.specs.Answers.{Edition}
+use Rattle.format.specs.Answers.{Outcome}
+use Rattle.spot.specs.Answers.{Spot}
+use Rattle.format.specs.declared.Refusal.{Refusal}
+use Rattle.format.specs.declared.Refusal.TheVariants.{At}
 use Rattle.format.specs.Format.{Answer, got, refused, pick, Bytes}
 use Rattle.format.specs.Laws.Format.{bytes_take}
 use Rattle.kind.specs.declared.Product.{Product}
-use Rattle.kind.specs.declared.Edition.{Edition}
 use Rattle.kind.specs.Kinds.{edition_of}
 use Rattle.rule.specs.Rule.{Rule}
 use Rattle.deck.specs.Deck.{Deck, base_of, read_as, read_by, read_deck}
 use Rattle.deck.specs.Laws.Deck.{deck_small, read_writes_back}
 use Rattle.deck.specs.Written.{deck_of, start_of}
 use Rattle.spot.specs.declared.Site.{Site}
-use Rattle.spot.specs.declared.Spot.{Spot}
-use Rattle.spot.specs.Laws.Spot.{spot_says}
 use Rattle.locate.specs.Laws.Located.{site_of, located}
 use Rattle.steps.specs.Laws.Steps.{Sound, sound_read, start_within}
 use Rattle.plan.specs.Edit.{Edit, Plan, refuse, edited, in_version, in_room, plan, plan_by, planned, says, leaves, Edits}
 
 -- "1, 15, 2 to 13 on its deck", then where the rule stands that is asked for
 abbrev pub found_by : Edition → (List Rule → ℕ) → ℕ → List ℕ → Spot
-found_by (Edition.Of p) k n d = pick (leb n (length d)) (located k (read_as p (take n d))) (Spot.No Fault.Stated 0)
-found_by Edition.Unknown k n d = Spot.No Fault.Edition 0
+found_by (Some p) k n d = pick (leb n (length d)) (located k (read_as p (take n d))) (Err (At Fault.Stated 0))
+found_by None k n d = Err (At Fault.Edition 0)
 
 unfoldable pub found : (List Rule → ℕ) → ℕ → ℕ → List ℕ → Spot
 found k edition n d = found_by (edition_of edition) k n d
@@ -47,7 +48,7 @@ pub record Sits (k : List Rule → ℕ) (f : Site) (d : List ℕ) (p : Product) 
 
 -- whatever rules it has: r is answered and d becomes d'
 unfoldable pub Makes : ℕ → (List Rule → ℕ) → Site → Edit → List ℕ → Outcome → List ℕ → Type 0
-Makes edition k f e d r d' = (p : Product) (v : ℕ) (rs : List Rule) → edition_of edition ≡ Edition.Of p → Sits k f d p v rs → Does v f.bytes (edited p e rs) d r d'
+Makes edition k f e d r d' = (p : Product) (v : ℕ) (rs : List Rule) → edition_of edition ≡ Some p → Sits k f d p v rs → Does v f.bytes (edited p e rs) d r d'
 
 -- the same of one product
 unfoldable pub MakesAs : Product → (List Rule → ℕ) → Site → Edit → List ℕ → Outcome → List ℕ → Type 0
@@ -75,17 +76,17 @@ sits_within {k} f d {p} {v} {rs} o =
 
 -- ---- as the code finds it
 
-pub edit_unknown : (edition n : ℕ) (d : List ℕ) (e : Edit) {o : Edition} → o ≡ edition_of edition → o ≡ Edition.Unknown → Edits edition n e d (Outcome.No Fault.Edition 0) d
+pub edit_unknown : (edition n : ℕ) (d : List ℕ) (e : Edit) {o : Edition} → o ≡ edition_of edition → o ≡ None → Edits edition n e d (Err (At Fault.Edition 0)) d
 unfolding planned says leaves
 edit_unknown edition n d e f h = rw (← f, h) (refl, refl)
 
 module _ (k : List Rule → ℕ) (edition n : ℕ) (d : List ℕ) where
-  pub found_none : {o : Edition} → o ≡ edition_of edition → o ≡ Edition.Unknown → Spot.No Fault.Edition 0 ≡ found k edition n d
+  pub found_none : {o : Edition} → o ≡ edition_of edition → o ≡ None → Err (At Fault.Edition 0) ≡ found k edition n d
   unfolding found
   found_none e h = rw (← e, h)
 
   module _ {o : Edition} {p : Product} where
-    pub found_beyond : o ≡ edition_of edition → o ≡ Edition.Of p → length d < n → Spot.No Fault.Stated 0 ≡ found k edition n d
+    pub found_beyond : o ≡ edition_of edition → o ≡ Some p → length d < n → Err (At Fault.Stated 0) ≡ found k edition n d
     unfolding found pick
     found_beyond e h l = rw (← e, h, lt-leb n (length d) l)
 
@@ -95,26 +96,26 @@ module _ (k : List Rule → ℕ) (edition n : ℕ) (d : List ℕ) where
   found_is {c} l f = f ∙ go (edition_of edition)
     where
       go : (o : Edition) → located k (read_by o (take n d)) ≡ found_by o k n d
-      go (Edition.Of p) = rw (le-leb n (length d) l)
-      go Edition.Unknown = refl
+      go (Some p) = rw (le-leb n (length d) l)
+      go None = refl
 
   -- what was found, by the deck that was read
   pub record Ground (f : Site) : Type 0 where
     pub product : Product
     pub version : ℕ
     pub rs : List Rule
-    pub by : edition_of edition ≡ Edition.Of product
+    pub by : edition_of edition ≡ Some product
     pub bytes : f.bytes ≡ n
     pub sits : Sits k f d product version rs
     pub plans : (e : Edit) → planned edition n d e ≡ in_room (length d) (in_version version (edited product e rs))
 
   -- c is what was found
   module _ {c : Spot} where
-    pub ground : {f : Site} → Bytes d → c ≡ found k edition n d → c ≡ Spot.Is f → Ground f
+    pub ground : {f : Site} → Bytes d → c ≡ found k edition n d → c ≡ Ok f → Ground f
     unfolding found planned pick
     ground {f} bs g h = by (edition_of edition) refl (sym h ∙ g)
       where
-        read : (p : Product) (x : Answer Deck) → edition_of edition ≡ Edition.Of p → n ≤ length d → read_as p (take n d) ≡ x → Spot.Is f ≡ located k x → ((e : Edit) → plan_by (edition_of edition) n d e ≡ plan p (length d) e x) → Ground f
+        read : (p : Product) (x : Answer Deck) → edition_of edition ≡ Some p → n ≤ length d → read_as p (take n d) ≡ x → Ok f ≡ located k x → ((e : Edit) → plan_by (edition_of edition) n d e ≡ plan p (length d) e x) → Ground f
         read p (got a l) o i y z w =
             let bt = bytes_take n d bs in
             let e : f ≡ site_of k l a.version a.rules = cc in
@@ -139,37 +140,37 @@ module _ (k : List Rule → ℕ) (edition n : ℕ) (d : List ℕ) where
             }
         read p (refused x y) o i v z w = absurd (let u : ◌≡◌ {A = ℕ} 0 1 = cc in omega arith)
 
-        stated : (p : Product) (t : Bool) → leb n (length d) ≡ t → edition_of edition ≡ Edition.Of p → Spot.Is f ≡ pick t (located k (read_as p (take n d))) (Spot.No Fault.Stated 0)
+        stated : (p : Product) (t : Bool) → leb n (length d) ≡ t → edition_of edition ≡ Some p → Ok f ≡ pick t (located k (read_as p (take n d))) (Err (At Fault.Stated 0))
             → ((e : Edit) → plan_by (edition_of edition) n d e ≡ pick t (plan p (length d) e (read_as p (take n d))) (refuse Fault.Stated 0)) → Ground f
         stated p true t o z w = read p (read_as p (take n d)) o (leb-true n (length d) t) refl z w
         stated p false t o z w = absurd (let u : ◌≡◌ {A = ℕ} 0 1 = cc in omega arith)
 
-        by : (o : Edition) → edition_of edition ≡ o → Spot.Is f ≡ found_by o k n d → Ground f
-        by (Edition.Of p) o z = stated p (leb n (length d)) refl o z (λ e. ap (λ (o : Edition). plan_by o n d e) o)
-        by Edition.Unknown o z = absurd (let u : ◌≡◌ {A = ℕ} 0 1 = cc in omega arith)
+        by : (o : Edition) → edition_of edition ≡ o → Ok f ≡ found_by o k n d → Ground f
+        by (Some p) o z = stated p (leb n (length d)) refl o z (λ e. ap (λ (o : Edition). plan_by o n d e) o)
+        by None o z = absurd (let u : ◌≡◌ {A = ℕ} 0 1 = cc in omega arith)
 
-    pub found_within : {f : Site} → Bytes d → c ≡ found k edition n d → c ≡ Spot.Is f → Within f d
+    pub found_within : {f : Site} → Bytes d → c ≡ found k edition n d → c ≡ Ok f → Within f d
     found_within {f} bs g h = sits_within f d (ground bs g h).sits
 
   module _ (e : Edit) {c : Spot} where
-    pub edit_no : {r : Outcome} {f : Fault} {q : ℕ} → c ≡ found k edition n d → c ≡ Spot.No f q → r ≡ spot_says c → Edits edition n e d r d
+    pub edit_no : {r : Outcome} {why : Refusal} → c ≡ found k edition n d → c ≡ Err why → r ≡ Err why → Edits edition n e d r d
     unfolding found planned pick says leaves
-    edit_no {r} {f} {q} g h i = let z = by (edition_of edition) (sym h ∙ g) in (i ∙ ap spot_says h ∙ z.0, z.1)
+    edit_no {why = why} g h i = let z = by (edition_of edition) (sym h ∙ g) in (i ∙ z.0, z.1)
       where
-        read : (p : Product) (a : Answer Deck) → Spot.No f q ≡ located k a → (Outcome.No f q ≡ says (plan p (length d) e a)) × (d ≡ leaves n d (plan p (length d) e a))
+        read : (p : Product) (a : Answer Deck) → Err why ≡ located k a → (Err why ≡ says (plan p (length d) e a)) × (d ≡ leaves n d (plan p (length d) e a))
         read p (got rs m) z = absurd (let u : ◌≡◌ {A = ℕ} 0 1 = cc in omega arith)
         read p (refused x y) z = ((cc), refl)
 
-        stated : (p : Product) (b : Bool) → Spot.No f q ≡ pick b (located k (read_as p (take n d))) (Spot.No Fault.Stated 0)
-            → (Outcome.No f q ≡ says (pick b (plan p (length d) e (read_as p (take n d))) (refuse Fault.Stated 0))) × (d ≡ leaves n d (pick b (plan p (length d) e (read_as p (take n d))) (refuse Fault.Stated 0)))
+        stated : (p : Product) (b : Bool) → Err why ≡ pick b (located k (read_as p (take n d))) (Err (At Fault.Stated 0))
+            → (Err why ≡ says (pick b (plan p (length d) e (read_as p (take n d))) (refuse Fault.Stated 0))) × (d ≡ leaves n d (pick b (plan p (length d) e (read_as p (take n d))) (refuse Fault.Stated 0)))
         stated p true z = read p (read_as p (take n d)) z
         stated p false z = ((cc), refl)
 
-        by : (o : Edition) → Spot.No f q ≡ found_by o k n d → (Outcome.No f q ≡ says (plan_by o n d e)) × (d ≡ leaves n d (plan_by o n d e))
-        by (Edition.Of p) z = stated p (leb n (length d)) z
-        by Edition.Unknown z = ((cc), refl)
+        by : (o : Edition) → Err why ≡ found_by o k n d → (Err why ≡ says (plan_by o n d e)) × (d ≡ leaves n d (plan_by o n d e))
+        by (Some p) z = stated p (leb n (length d)) z
+        by None z = ((cc), refl)
 
-    pub edit_done : {f : Site} {r : Outcome} {d' : List ℕ} → Bytes d → c ≡ found k edition n d → c ≡ Spot.Is f → Makes edition k f e d r d' → Edits edition n e d r d'
+    pub edit_done : {f : Site} {r : Outcome} {d' : List ℕ} → Bytes d → c ≡ found k edition n d → c ≡ Ok f → Makes edition k f e d r d' → Edits edition n e d r d'
     unfolding Makes
     edit_done {f} {r} {d'} bs g h w = go (ground bs g h)
       where
@@ -177,6 +178,6 @@ module _ (k : List Rule → ℕ) (edition n : ℕ) (d : List ℕ) where
         go o = rw (o.plans e) (rw o.bytes at (w o.product o.version o.rs o.by o.sits))
 
     -- by a product that was told before
-    pub edit_made : {f : Site} {r : Outcome} {d' : List ℕ} {o : Edition} {p : Product} → Bytes d → c ≡ found k edition n d → c ≡ Spot.Is f → o ≡ edition_of edition → o ≡ Edition.Of p → MakesAs p k f e d r d' → Edits edition n e d r d'
+    pub edit_made : {f : Site} {r : Outcome} {d' : List ℕ} {o : Edition} {p : Product} → Bytes d → c ≡ found k edition n d → c ≡ Ok f → o ≡ edition_of edition → o ≡ Some p → MakesAs p k f e d r d' → Edits edition n e d r d'
     unfolding Makes MakesAs
-    edit_made {p = p} bs g h f i w = edit_done bs g h (λ q v rs x s. let z : q ≡ p = let u : Edition.Of q ≡ Edition.Of p = sym x ∙ sym f ∙ i in cc in rw z (w v rs (rw z at s)))
+    edit_made {p = p} bs g h f i w = edit_done bs g h (λ q v rs x s. let z : q ≡ p = let u : Some q ≡ Some p = sym x ∙ sym f ∙ i in cc in rw z (w v rs (rw z at s)))

@@ -1,5 +1,5 @@
 -- What callers hand over fits: texts as their bytes, numbers of 32 bits, given elements that were accepted.
-use Rattle.std.specs.Prelude.{ℕ, ◌+◌, ◌<◌, ◌^◌, ◌≡◌, refl, Bool, true, false, List, [], ◌∷◌, ◌++◌, eqb, length}
+use Rattle.std.specs.Prelude.{ℕ, ◌+◌, ◌<◌, ◌^◌, ◌≡◌, refl, Bool, true, false, List, [], ◌∷◌, ◌++◌, eqb, length, Ok, Err}
 use Rattle.std.proofs.Common.{arith, sym, ap, ◌∙◌, length-append}
 use Rattle.format.specs.declared.Fault.{Fault}
 use Rattle.format.specs.Format.{Answer, got, refused, Bytes, pick, whole}
@@ -11,7 +11,8 @@ use Rattle.text.specs.Laws.Written.{length_fits, fits_string, fits_word}
 use Rattle.text.specs.Text.{Text, unit, string, word}
 use Rattle.kind.specs.declared.Product.{Product}
 use Rattle.kind.specs.declared.Kind.{Kind}
-use Rattle.kind.specs.declared.Row.{Row}
+use Rattle.kind.specs.Answers.{Row}
+use Rattle.format.specs.declared.Refusal.TheVariants.{At, Given}
 use Rattle.kind.specs.Kinds.{kinds, row_in, row_of}
 use Rattle.kind.specs.Laws.Kinds.{offered_is}
 use Rattle.element.specs.Data.{words, data_of, marker_data, simple_data, word_data, size_data, date_data}
@@ -47,11 +48,12 @@ unfolding given element pair identifier judged number row_of
 given_fits p id s x n l b e = go (row_of p id) refl e
   where
     go : (w : Row) → row_of p id ≡ w → given_by w id s ≡ got x n → (element p).Fit x
-    go (Row.No c q) h z = apart (sym z)
-    go (Row.Is k) h z =
+    go (Err (At c q)) h z = apart (sym z)
+    go (Err (Given c q)) h z = apart (sym z)
+    go (Ok k) h z =
         let m = mapped_got (with_data id) (whole (length s) ((data_of k).read s)) x n z in
         let f = ((data_of k).forth s m.0 n b (whole_got (length s) ((data_of k).read s) m.0 n m.1.0)).fit in
-        let w : row_in kinds id ≡ Row.Is k = offered_is p (row_in kinds id) h in
+        let w : row_in kinds id ≡ Ok k = offered_is p (row_in kinds id) h in
         rw m.1.1 (((l, ap is_row w), ap is_row h), rw w f)
 
 -- ---- a word more in a list
@@ -75,5 +77,5 @@ unfolding element pair identifier judged
 word_more p id ws t f l g = (f.0, by (row_in kinds id) refl f.1)
   where
     by : (w : Row) → row_in kinds id ≡ w → (data_by w).Fit (words ws) → (data_by w).Fit (words (ws ++ (t ∷ [])))
-    by (Row.Is k) e h = let i = word_list k ws h in rw i (more_words ws t (rw i at h) l g)
-    by (Row.No c q) e h = absurd (let z : ◌≡◌ {A = Bool} false true = sym (ap is_row e) ∙ f.0.0.1 in let y : ◌≡◌ {A = ℕ} 0 1 = cc in omega arith)
+    by (Ok k) e h = let i = word_list k ws h in rw i (more_words ws t (rw i at h) l g)
+    by (Err why) e h = absurd (let z : ◌≡◌ {A = Bool} false true = sym (ap is_row e) ∙ f.0.0.1 in let y : ◌≡◌ {A = ℕ} 0 1 = cc in omega arith)

@@ -1,11 +1,12 @@
 -- The last rule of a deck, which elements and words are added to.
-use Rattle.std.specs.Prelude.{ℕ, ◌+◌, ◌-◌, ◌<◌, ◌≡◌, refl, List, [], ◌∷◌, ◌++◌, take, drop}
+use Rattle.std.specs.Prelude.{ℕ, ◌+◌, ◌-◌, ◌<◌, ◌≡◌, refl, List, [], ◌∷◌, ◌++◌, take, drop, Err}
 use Rattle.std.proofs.Common.{arith, sym, ◌∙◌, length-drop}
 use Rattle.std.proofs.Math.Path.{ap}
 use Rattle.std.proofs.Math.ListN.{length}
 use Rattle.format.specs.declared.Fault.{Fault}
-use Rattle.format.specs.declared.Outcome.{Outcome}
-use Rattle.format.specs.declared.Read.{Read}
+use Rattle.format.specs.Answers.{Outcome, Read}
+use Rattle.format.specs.declared.Refusal.{Refusal}
+use Rattle.format.specs.declared.Refusal.TheVariants.{At}
 use Rattle.format.specs.ReadWrite.{each_write}
 use Rattle.kind.specs.declared.Product.{Product}
 use Rattle.rule.specs.Rule.{Rule}
@@ -41,7 +42,7 @@ module _ {p : Product} {v : ℕ} {s : List ℕ} {rs : List Rule} {k : ℕ} (h : 
 
 -- an edit that makes of the last rule what F says
 module _ (p : Product) (f : Site) (d : List ℕ) (e : Edit) (F : List Rule → ℕ → Rule → Plan (List Rule)) (q : (rs : List Rule) → edited p e rs ≡ at_last (drop (length rs - 1) rs) (F rs (length rs - 1))) where
-  pub on_none : f.rules ≡ 0 → MakesAs p last_of f e d (Outcome.No Fault.Last 0) d
+  pub on_none : f.rules ≡ 0 → MakesAs p last_of f e d (Err (At Fault.Last 0)) d
   unfolding MakesAs
   on_none z v rs o = made_no v f.bytes d (q rs ∙ no_last rs _ (omega (arith, o.many)))
 
@@ -59,6 +60,6 @@ module _ (p : Product) (f : Site) (d : List ℕ) (e : Edit) (F : List Rule → �
           rw (q rs, ek, at_last_lem rs (f.rules - 1) _ h.from) (w v rs h (last_rule h (omega (arith, o.many))) o t' a')
 
 -- its name can be read
-pub last_unnamed : (p : Product) (f : Site) (d : List ℕ) (e : Edit) (r : Outcome) (d' : List ℕ) {t : Read} {c : Fault} {q : ℕ} → (f.rules ≡ 0 → ⊥) → t ≡ name_read d f.start → t ≡ Read.No q c → MakesAs p last_of f e d r d'
+pub last_unnamed : (p : Product) (f : Site) (d : List ℕ) (e : Edit) (r : Outcome) (d' : List ℕ) {t : Read} {why : Refusal} → (f.rules ≡ 0 → ⊥) → t ≡ name_read d f.start → t ≡ Err why → MakesAs p last_of f e d r d'
 unfolding MakesAs
 last_unnamed p f d e r d' l g h v rs o = name_there f.bytes d (here p v (take f.bytes d) rs (length rs - 1) o.sound (omega (arith, o.many))) (g ∙ ap (name_read d) o.starts) h

@@ -1,13 +1,16 @@
 -- How an edit is shown to do its plan: from a sound deck in a buffer, through what is done to the buffer, to the deck of the edited list.
-use Rattle.std.specs.Prelude.{ℕ, ◌+◌, ◌-◌, ◌≤◌, ◌<◌, max, ◌≡◌, refl, true, false, take, drop}
-use Rattle.std.proofs.Common.{arith, ◌∙◌, length-append, take-append-drop, drop_of_length-le, drop_at, lt-ltb, le-ltb}
+use Rattle.std.specs.Prelude.{ℕ, ◌+◌, ◌-◌, ◌≤◌, ◌<◌, max, ◌≡◌, refl, true, false, take, drop, Result, Ok, Err}
+use Rattle.std.proofs.Common.{arith, ◌∙◌, zero-add, length-append, take-append-drop, drop_of_length-le, drop_at, lt-ltb, le-ltb}
 use Rattle.std.proofs.Math.Path.{sym, ap, ap₂}
 use mathlib.Core.List.{List, [], ◌∷◌, ◌++◌, append_assoc}
 use Rattle.std.proofs.Math.ListN.{length}
 use Rattle.format.specs.declared.Fault.{Fault}
-use Rattle.format.specs.declared.Outcome.{Outcome}
-use Rattle.format.specs.declared.Read.{Read}
+use Rattle.format.specs.Answers.{Outcome, Read}
+use Rattle.format.specs.declared.Refusal.{Refusal}
+use Rattle.format.specs.declared.Refusal.TheVariants.{At, Given}
 use Rattle.format.specs.Format.{Answer, got, refused, pick}
+use Rattle.format.specs.Fault.{in_given}
+use Rattle.format.specs.Laws.Seen.{told, none, unlike}
 use Rattle.format.specs.Laws.Written.{Held}
 use Rattle.kind.specs.declared.Product.{Product}
 use Rattle.kind.specs.declared.Product.TheVariants.{Studio}
@@ -42,11 +45,11 @@ module _ (n : ℕ) (d : List ℕ) {p : Product} {v : ℕ} {rs : List Rule} where
   name_ends {k} h = name_end_lem d (start_of v rs k) p k h.r (here_in h)
 
   -- its name can be read: t is what it was read as
-  pub name_there : {k : ℕ} {t : Read} {c : Fault} {q : ℕ} {B : Type 0} (h : Here p v (take n d) rs k) → t ≡ name_read d (start_of v rs k) → t ≡ Read.No q c → B
+  pub name_there : {k : ℕ} {t : Read} {why : Refusal} {B : Type 0} (h : Here p v (take n d) rs k) → t ≡ name_read d (start_of v rs k) → t ≡ Err why → B
   name_there {k} h f g = name_never d (start_of v rs k) f g p k h.r (here_in h)
 
 -- so an edit of rule k is not refused there
-pub makes_unnamed : (edition k : ℕ) (f : Site) (e : Edit) (d : List ℕ) (r : Outcome) (d' : List ℕ) {t : Read} {c : Fault} {q : ℕ} → k < f.rules → t ≡ name_read d f.start → t ≡ Read.No q c → Makes edition (λ rs. k) f e d r d'
+pub makes_unnamed : (edition k : ℕ) (f : Site) (e : Edit) (d : List ℕ) (r : Outcome) (d' : List ℕ) {t : Read} {why : Refusal} → k < f.rules → t ≡ name_read d f.start → t ≡ Err why → Makes edition (λ rs. k) f e d r d'
 unfolding Makes
 makes_unnamed edition k f e d r d' l g h p v rs x o = name_there f.bytes d (here p v (take f.bytes d) rs k o.sound (omega (arith, o.many))) (g ∙ ap (name_read d) o.starts) h
 
@@ -107,42 +110,60 @@ pub no_given : {a : Answer Element} (f : Element → Plan (List Rule)) {c : Faul
 unfolding at_given
 no_given f e = rw e
 
+-- of a second deck or of given element data: u is r, as theirs
+pub given_err : {A : Type 0} (r : Result A Refusal) {u : Result A Refusal} {why : Refusal} → u ≡ in_given r → u ≡ Err why → (w : Refusal) × (r ≡ Err w)
+given_err (Ok y) e h = absurd (let z : ◌≡◌ {A = ℕ} 0 1 = cc in omega arith)
+given_err (Err w) e h = (w, refl)
+
+pub record Faulted {A : Type 0} (a : Answer A) (why : Refusal) : Type 0 where
+  pub c : Fault
+  pub q : ℕ
+  pub is : a ≡ refused c q
+  pub ends : why ≡ Given c q
+
+pub given_no : {A : Type 0} (a : Answer A) {t u : Read} {why : Refusal} → t ≡ told 0 none a → u ≡ in_given t → u ≡ Err why → Faulted a why
+unfolding told
+given_no (got x n) e f h = unlike (f ∙ ap in_given e) h
+given_no (refused c q) {why = why} e f h =
+    let z : ◌≡◌ {A = Read} (Err why) (Err (Given c (0 + q))) = sym h ∙ f ∙ ap in_given e in
+    let y : why ≡ Given c (0 + q) = cc in
+    record { c = c; q = q; is = refl; ends = y ∙ ap (Given c) (zero-add q) }
+
 -- ---- what a plan comes to
 module _ (v n : ℕ) (d : List ℕ) {q : Plan (List Rule)} where
   -- refused before the edit
-  pub made_no : {c : Fault} {o : ℕ} → q ≡ refuse c o → Does v n q d (Outcome.No c o) d
+  pub made_no : {c : Fault} {o : ℕ} → q ≡ refuse c o → Does v n q d (Err (At c o)) d
   unfolding says leaves
   made_no e = rw e (refl, refl)
 
-  pub made_given : {c : Fault} {o : ℕ} → q ≡ refuse_given c o → Does v n q d (Outcome.Given c o) d
+  pub made_given : {c : Fault} {o : ℕ} → q ≡ refuse_given c o → Does v n q d (Err (Given c o)) d
   unfolding says leaves
   made_given e = rw e (refl, refl)
 
   -- the edited list
   module _ {rs : List Rule} where
     -- 18, 19, 20: o is what was judged of it
-    pub made_out : {o : Outcome} {m len : ℕ} → q ≡ become rs → o ≡ room_for m len (length d) → ((w : ℕ) → o ≡ Outcome.Done w → ⊥) → m ≡ length rs → len ≡ length (written v rs) → Does v n q d o d
+    pub made_out : {o r : Outcome} {why : Refusal} {m len : ℕ} → q ≡ become rs → o ≡ room_for m len (length d) → o ≡ Err why → r ≡ Err why → m ≡ length rs → len ≡ length (written v rs) → Does v n q d r d
     unfolding says leaves
-    made_out {o} e f h em el = rw (e, ← em, ← el, ← f) (go o h)
+    made_out {why = why} e f h i em el = rw (e, ← em, ← el, ← f, h, i) (go why)
       where
-        go : (o : Outcome) → ((w : ℕ) → o ≡ Outcome.Done w → ⊥) → (o ≡ says (if_done o (deck_of v rs))) × (d ≡ leaves n d (if_done o (deck_of v rs)))
-        go (Outcome.Done w) h = absurd (h w refl)
-        go (Outcome.No c p) h = (refl, refl)
-        go (Outcome.Given c p) h = (refl, refl)
+        go : (why : Refusal) → (Err why ≡ says (if_done (Err why) (deck_of v rs))) × (d ≡ leaves n d (if_done (Err why) (deck_of v rs)))
+        go (At c p) = (refl, refl)
+        go (Given c p) = (refl, refl)
 
     -- done: the buffer y holds the deck of the edited list, len bytes long
-    pub made_is : {y Y : List ℕ} {hi len : ℕ} → Holds y Y hi d → q ≡ become rs → Y ≡ written v rs → length Y ≡ len → hi ≡ max n len → length rs ≤ 256 → len ≤ 60000 → Does v n q d (Outcome.Done len) y
+    pub made_is : {y Y : List ℕ} {hi len : ℕ} → Holds y Y hi d → q ≡ become rs → Y ≡ written v rs → length Y ≡ len → hi ≡ max n len → length rs ≤ 256 → len ≤ 60000 → Does v n q d (Ok len) y
     unfolding says leaves
     made_is {y} {Y} {hi} {len} h e w s i l m =
         let z : length (written v rs) ≡ len = sym (ap length w) ∙ s in
         let u = h.room in
         let g : length (written v rs) ≤ length d = omega (arith, h.short) in
         rw (e, ← room_is (length rs) (length (written v rs)) (length d) l (omega arith) g)
-        (ap Outcome.Done (sym z), h.is ∙ ap₂ (λ (a : List ℕ) (b : ℕ). laid a b d) w (i ∙ ap (max n) (sym z)))
+        (ap Ok (sym z), h.is ∙ ap₂ (λ (a : List ℕ) (b : ℕ). laid a b d) w (i ∙ ap (max n) (sym z)))
 
     -- done where there was found to be room
-    pub made_in : {o : Outcome} {y Y : List ℕ} {hi w m len : ℕ} → o ≡ room_for m len (length d) → o ≡ Outcome.Done w → Holds y Y hi d → q ≡ become rs → Y ≡ written v rs → length Y ≡ len → hi ≡ max n len → m ≡ length rs → Does v n q d o y
+    pub made_in : {o : Outcome} {y Y : List ℕ} {hi w m len : ℕ} → o ≡ room_for m len (length d) → o ≡ Ok w → Holds y Y hi d → q ≡ become rs → Y ≡ written v rs → length Y ≡ len → hi ≡ max n len → m ≡ length rs → Does v n q d o y
     made_in {o} {m = m} {len = len} r h y e w s i em =
         let j = roomy m len (length d) r h in
-        let z : o ≡ Outcome.Done len = r ∙ sym (room_is m len (length d) j.few j.short j.inside) in
+        let z : o ≡ Ok len = r ∙ sym (room_is m len (length d) j.few j.short j.inside) in
         rw z (made_is y e w s i (omega (arith, j.few)) j.short)

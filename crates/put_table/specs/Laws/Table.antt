@@ -1,16 +1,15 @@
 -- Laws of ../Table.antt: as the code takes a value from a table.
-use Rattle.std.specs.Prelude.{ℕ, ◌^◌, ◌≤◌, ◌<◌, ◌≡◌, refl, Bool, true, false, not, List, T, eqb, length, get_or, Float}
+use Rattle.std.specs.Prelude.{ℕ, ◌^◌, ◌≤◌, ◌<◌, ◌≡◌, refl, Bool, true, false, not, List, T, eqb, length, get_or, Float, Ok, Err, Some, None}
 use Rattle.std.proofs.Common.{arith, sym, ap, ◌∙◌}
 use Rattle.std.specs.Float.{nan, inf, fin, binary64}
 use Rattle.std.specs.Float.Ieee.{of_bits, to_bits, is_nan, nan_bits}
 use Rattle.std.specs.Float.Ieee.Bits.{nan_bits_is}
-use borrow.Author.Tests.{lt-ltb, le-ltb, le-leb, lt-leb, ne_eqb}
+use borrow.Author.Tests.{le-leb, lt-leb, ne_eqb}
 use Rattle.format.specs.Format.{pick}
 use Rattle.date.specs.Double.{accepted}
 use Rattle.date.proofs.Floats.{bits_back, date_no_nan}
 use Rattle.kind.specs.declared.Kind.{Kind}
-use Rattle.kind.specs.declared.Edition.{Edition}
-use Rattle.kind.specs.declared.Row.{Row}
+use Rattle.kind.specs.Answers.{Edition, Row}
 use Rattle.kind.specs.Kinds.{edition_of, row_of}
 use Rattle.value.specs.declared.Span.{Span}
 use Rattle.value.specs.declared.Value.{Value}
@@ -72,27 +71,6 @@ dates_alike f g a b x y ha hb sa sb k id room = rw (spans_alike f g a b x y ha h
 
 -- ---- case by case
 
-pub simple_is : (id : ℕ) → id < 2 ^ 32 → Value.Simple id ≡ by_simple id
-unfolding by_simple pick
-simple_is id h = rw (lt-ltb id (2 ^ 32) h)
-
-pub simple_none : (id : ℕ) → 2 ^ 32 ≤ id → no_value ≡ by_simple id
-unfolding by_simple pick
-simple_none id h = rw (le-ltb id (2 ^ 32) h)
-
-module _ (a b : ℕ) where
-  pub size_is : a < 2 ^ 32 → b < 2 ^ 32 → Value.Size a b ≡ by_size a b
-  unfolding by_size pick
-  size_is h l = rw (lt-ltb a (2 ^ 32) h, lt-ltb b (2 ^ 32) l)
-
-  pub size_none : 2 ^ 32 ≤ a → no_value ≡ by_size a b
-  unfolding by_size pick
-  size_none h = rw (le-ltb a (2 ^ 32) h)
-
-  pub size_none_2 : a < 2 ^ 32 → 2 ^ 32 ≤ b → no_value ≡ by_size a b
-  unfolding by_size pick
-  size_none_2 h l = rw (lt-ltb a (2 ^ 32) h, le-ltb b (2 ^ 32) l)
-
 module _ (f g a b : ℕ) where
   pub dates_are : (x y : Float) → a < 2 ^ 64 → b < 2 ^ 64 → Stands a x → Stands b y → f ≤ 1 → g ≤ 1 → Alike (Value.Dates (span (eqb f 1) (eqb g 1) x y)) (by_dates f g a b)
   unfolding by_dates pick
@@ -137,15 +115,17 @@ module _ (t : List ℕ) where
     unfolding by_case value_from pick
     from_other a b c d = alike (rw (le-leb 5 (length t) h, ne_eqb (get_or t 0 0) 0 a, ne_eqb (get_or t 0 0) 1 b, ne_eqb (get_or t 0 0) 2 c, ne_eqb (get_or t 0 0) 3 d))
 
+pub ruleset cases = (from_short, from_marker, from_simple, from_size, from_dates, from_other)
+
 -- what goes back alike goes back alike in an edition
 pub putting_alike : (edition id room : ℕ) (v w : Value) → Alike v w → putting edition id v room ≡ putting edition id w room
 unfolding putting Alike
 putting_alike edition id room v w f = by (edition_of edition)
   where
     row : (r : Row) → plan_row r id v room ≡ plan_row r id w room
-    row (Row.Is k) = f k id room
-    row (Row.No c p) = refl
+    row (Ok k) = f k id room
+    row (Err why) = refl
 
     by : (o : Edition) → plan_edition o id v room ≡ plan_edition o id w room
-    by (Edition.Of p) = row (row_of p id)
-    by Edition.Unknown = refl
+    by (Some p) = row (row_of p id)
+    by None = refl

@@ -1,15 +1,16 @@
 -- A rule removed: it gives way to nothing; the rule that becomes the first gets the long head, and 16 more in its Data Size.
 use Prim.Native.Nat.{ℕ, zero, suc, ◌+◌, ◌-◌, ◌≤◌, ◌<◌, ◌^◌, max}
 use native.Mathlib.Omega.{arith}
-use Rattle.std.specs.Prelude.{◌≡◌, List, [], ◌∷◌, ◌++◌, drop}
+use Rattle.std.specs.Prelude.{◌≡◌, List, [], ◌∷◌, ◌++◌, drop, Ok, Err}
 use Rattle.std.proofs.Math.Path.{refl, sym, ap}
 use Rattle.std.proofs.Common.{◌∙◌, append_assoc, length-append, length-drop}
 use Rattle.std.proofs.Math.ListN.{length, take}
 use Rattle.std.proofs.Math.Seq.{length-take-le}
 use Rattle.format.specs.declared.Fault.{Fault}
-use Rattle.format.specs.declared.Outcome.{Outcome}
-use Rattle.format.specs.declared.Read.{Read}
-use Rattle.format.specs.declared.Read.TheVariants.{Got, No}
+use Rattle.format.specs.Answers.{Outcome, Read}
+use Rattle.spot.specs.Answers.{Spot}
+use Rattle.format.specs.declared.Refusal.{Refusal}
+use Rattle.format.specs.declared.Refusal.TheVariants.{At}
 use Rattle.format.specs.Format.{Bytes}
 use Rattle.format.specs.ReadWrite.{spelt, each_write}
 use Rattle.format.specs.Laws.ReadWrite.{length_spelt}
@@ -30,7 +31,6 @@ use Rattle.buffer.specs.Laid.{put_in}
 use Rattle.buffer.specs.Laws.Laid.{opened, moved, down}
 use Rattle.buffer.specs.Laws.Holds.{Holds, Gap, holds_start, holds_put, holds_down, holds_open, holds_fill}
 use Rattle.spot.specs.declared.Site.{Site}
-use Rattle.spot.specs.declared.Spot.{Spot}
 use Rattle.steps.specs.Laws.Steps.{Here, here, name_read, name_end, name_end_lem, size_read, size_is}
 use Rattle.plan.specs.Edit.{remove, edited, become}
 use Rattle.plan.specs.Laws.Found.{Makes, Does, Sits, sits_within, found, ground}
@@ -91,15 +91,15 @@ module _ (d : List ℕ) (n : ℕ) (p : Product) (v : ℕ) (rs : List Rule) (k : 
       before_is v rs k h.later (omega arith) ∙ ap (λ (t : List ℕ). before v rs k ++ t) (sym (behind_same k h.later (λ z. omega (arith, c.0, only z))))
 
 module _ (edition k : ℕ) (f : Site) (d : List ℕ) where
-  pub remove_absent : f.rules ≤ k → Makes edition (λ rs. k) f (remove k) d (Outcome.No Fault.Absent 0) d
+  pub remove_absent : f.rules ≤ k → Makes edition (λ rs. k) f (remove k) d (Err (At Fault.Absent 0)) d
   unfolding Makes edited
   remove_absent l p v rs x o = made_no v f.bytes d (no_rule rs k _ (omega (arith, o.many)))
 
-  pub remove_other : {z : List ℕ} (r : ℕ) (y : List ℕ) → k < f.rules → (k ≡ 0 → f.rules ≡ 1) → z ≡ opened d f.bytes f.start f.end 0 → Finishes f (f.rules - 1) (f.bytes - (f.end - f.start)) z r y → Makes edition (λ rs. k) f (remove k) d (Outcome.Done r) y
+  pub remove_other : {z : List ℕ} (r : ℕ) (y : List ℕ) → k < f.rules → (k ≡ 0 → f.rules ≡ 1) → z ≡ opened d f.bytes f.start f.end 0 → Finishes f (f.rules - 1) (f.bytes - (f.end - f.start)) z r y → Makes edition (λ rs. k) f (remove k) d (Ok r) y
   unfolding Makes edited
   remove_other {z} r y l only ez fin p v rs x o = go (here p v (take f.bytes d) rs k o.sound (omega (arith, o.many)))
     where
-      go : Here p v (take f.bytes d) rs k → Does v f.bytes (edited p (remove k) rs) d (Outcome.Done r) y
+      go : Here p v (take f.bytes d) rs k → Does v f.bytes (edited p (remove k) rs) d (Ok r) y
       go h =
           let n = f.bytes - (f.end - f.start) in
           let xs = take k rs ++ h.later in
@@ -183,7 +183,7 @@ second [] later later' r r' e f = absurd (let z : ◌≡◌ {A = ℕ} 0 1 = cc i
 second (x ∷ rs) later later' r r' e f = let z : rs ≡ later = cc in sym z ∙ f
 
 -- a number that was read of four bytes
-pub size_bound : (s : List ℕ) (at : ℕ) {z : Read} {v q : ℕ} → Bytes s → z ≡ seen itself (number 4) s at → z ≡ Got q v → v < 256 ^ 4
+pub size_bound : (s : List ℕ) (at : ℕ) {z : Read} {v q : ℕ} → Bytes s → z ≡ seen itself (number 4) s at → z ≡ Ok (q, v) → v < 256 ^ 4
 unfolding number
 size_bound s at bs e h = let o = seen_fits itself (number 4) s at bs e h in rw o.1.1 o.1.0
 
@@ -244,26 +244,26 @@ module _ (edition k : ℕ) (f : Site) (e : ℕ) (d : List ℕ) where
         let b = sits_within f d o in
         record { many = l; wide = omega (arith, i.0, eb, o.base); order = omega (arith, j, eb); inside = omega (arith, i.1, j); room = b.room; short = b.short }
 
-  pub found_next : (n : ℕ) {c : Spot} → Bytes d → c ≡ found (λ rs. k) edition n d → c ≡ Spot.Is f → k ≡ 0 → 1 < f.rules → e ≡ name_end d f.end → Second f e d
+  pub found_next : (n : ℕ) {c : Spot} → Bytes d → c ≡ found (λ rs. k) edition n d → c ≡ Ok f → k ≡ 0 → 1 < f.rules → e ≡ name_end d f.end → Second f e d
   found_next n bs g h ek l z = let y = ground (λ rs. k) edition n d bs g h in second_bounds y.product y.version y.rs y.sits ek l z
 
   -- the name of the rule behind it can be read, and its Data Size
-  pub remove_unnamed : (r : Outcome) (d' : List ℕ) {t : Read} {c : Fault} {q : ℕ} → k ≡ 0 → 1 < f.rules → t ≡ name_read d f.end → t ≡ No q c → Makes edition (λ rs. k) f (remove k) d r d'
+  pub remove_unnamed : (r : Outcome) (d' : List ℕ) {t : Read} {why : Refusal} → k ≡ 0 → 1 < f.rules → t ≡ name_read d f.end → t ≡ Err why → Makes edition (λ rs. k) f (remove k) d r d'
   unfolding Makes
   remove_unnamed r d' ek l g i p v rs x o = name_there f.bytes d (behind_first p v rs o l) (g ∙ ap (name_read d) (starts_there p v rs o ek)) i
 
-  pub remove_unread : (r : Outcome) (d' : List ℕ) {z : Read} {c : Fault} {q : ℕ} → k ≡ 0 → 1 < f.rules → e ≡ name_end d f.end → z ≡ seen itself (number 4) d (e + 20) → z ≡ No q c → Makes edition (λ rs. k) f (remove k) d r d'
+  pub remove_unread : (r : Outcome) (d' : List ℕ) {z : Read} {why : Refusal} → k ≡ 0 → 1 < f.rules → e ≡ name_end d f.end → z ≡ seen itself (number 4) d (e + 20) → z ≡ Err why → Makes edition (λ rs. k) f (remove k) d r d'
   unfolding Makes
   remove_unread r d' ek l ee ez y p v rs x o =
       let h = behind_first p v rs o l in
       unlike (size_read d f.end p 1 h.r (held_there p v rs o ek h) ee ez) y
 
-  pub remove_first : {z : Read} {size q : ℕ} {x : List ℕ} (r : ℕ) (y : List ℕ) → k ≡ 0 → 1 < f.rules → e ≡ name_end d f.end → z ≡ seen itself (number 4) d (e + 20) → z ≡ Got q size → x ≡ led d f.bytes f.base f.end (e + 26) size
-      → Finishes f (f.rules - 1) (f.bytes - (f.end - f.base) + 16) x r y → Makes edition (λ rs. k) f (remove k) d (Outcome.Done r) y
+  pub remove_first : {z : Read} {size q : ℕ} {x : List ℕ} (r : ℕ) (y : List ℕ) → k ≡ 0 → 1 < f.rules → e ≡ name_end d f.end → z ≡ seen itself (number 4) d (e + 20) → z ≡ Ok (q, size) → x ≡ led d f.bytes f.base f.end (e + 26) size
+      → Finishes f (f.rules - 1) (f.bytes - (f.end - f.base) + 16) x r y → Makes edition (λ rs. k) f (remove k) d (Ok r) y
   unfolding Makes edited
   remove_first {z} {size} {q} {x} r y ek many ee ez eg ex fin p v rs u o = rw ek (go (here p v (take f.bytes d) rs 0 o.sound (omega (arith, o.many))) (behind_first p v rs o many))
     where
-      go : Here p v (take f.bytes d) rs 0 → Here p v (take f.bytes d) rs 1 → Does v f.bytes (edited p (remove 0) rs) d (Outcome.Done r) y
+      go : Here p v (take f.bytes d) rs 0 → Here p v (take f.bytes d) rs 1 → Does v f.bytes (edited p (remove 0) rs) d (Ok r) y
       go g h =
           let t = second_bounds p v rs o ek many ee in
           let n = f.bytes - (f.end - f.base) + 16 in

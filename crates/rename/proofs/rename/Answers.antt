@@ -1,3 +1,4 @@
+use borrow.Author.Rules.{rules}
 use native.Mathlib.Omega.{arith}
 use Rattle.format.specs.Laws.Format.{bytes_all}
 use Rattle.steps.specs.Laws.Steps.{name_got}
@@ -6,17 +7,17 @@ use Rattle.plan.specs.Laws.Makes.{makes_unnamed}
 use Rattle.rename.specs.Laws.Rename.{rename_absent, found_named}
 use Rattle.rename.proofs.rename.Goals as goal
 
-pub returns-in_default : goal.returns-in_default
-returns-in_default c = edit_no _ _ _ _ _ c.find-f.ensures c.in_default.is c.spot_says.ensures
+pub returns-in_err-site : goal.returns-in_err-site
+returns-in_err-site c = edit_no _ _ _ _ _ c.find.ensures c.in_err-site.was (search rules)
 
 pub returns-then-site-k : goal.returns-then-site-k
-returns-then-site-k c = edit_done _ _ _ _ _ (bytes_all c.args.buf.now c.slice_known-1.given) c.find-f.ensures c.in-Is.is (rename_absent _ _ _ _ _ c.if-site-k.true)
+returns-then-site-k c = edit_done _ _ _ _ _ (bytes_all c.args.buf.now c.slice_known-1.given) c.find.ensures c.in_ok-site.was (rename_absent _ _ _ _ _ c.if-site-k.true)
 
-pub returns-in_default-t : goal.returns-in_default-t
-returns-in_default-t c = edit_done _ _ _ _ _ (bytes_all c.args.buf.now c.slice_known-1.given) c.find-f.ensures c.in-Is.is (makes_unnamed _ _ _ _ _ _ _ (omega (arith, c.if-site-k.false)) c.name_end-t.ensures c.in_default-t.is)
+pub returns-in_err-e : goal.returns-in_err-e
+returns-in_err-e c = edit_done _ _ _ _ _ (bytes_all c.args.buf.now c.slice_known-1.given) c.find.ensures c.in_ok-site.was (makes_unnamed _ _ _ _ _ _ _ (omega (arith, c.if-site-k.false)) c.name_end.ensures c.in_err-e.was)
 
 pub rename_at-requires : goal.rename_at-requires
-rename_at-requires c = found_named _ _ _ _ (bytes_all c.args.buf.now c.slice_known-1.given) c.find-f.ensures c.in-Is.is (omega (arith, c.if-site-k.false)) (name_got _ _ c.name_end-t.ensures c.in-Got.is)
+rename_at-requires c = found_named _ _ _ _ (bytes_all c.args.buf.now c.slice_known-1.given) c.find.ensures c.in_ok-site.was (omega (arith, c.if-site-k.false)) (name_got _ _ c.name_end.ensures c.in_ok-e.was)
 
 pub returns : goal.returns
-returns c = edit_done _ _ _ _ _ (bytes_all c.args.buf.now c.slice_known-1.given) c.find-f.ensures c.in-Is.is (c.rename_at.ensures _ _ (omega (arith, c.if-site-k.false)) (name_got _ _ c.name_end-t.ensures c.in-Got.is))
+returns c = edit_done _ _ _ _ _ (bytes_all c.args.buf.now c.slice_known-1.given) c.find.ensures c.in_ok-site.was (c.rename_at.ensures _ _ (omega (arith, c.if-site-k.false)) (name_got _ _ c.name_end.ensures c.in_ok-e.was))

@@ -1,8 +1,11 @@
 -- A rule renamed: the String of its name gives way to another.
-use Rattle.std.specs.Prelude.{ℕ, ◌+◌, ◌-◌, ◌≤◌, ◌<◌, max, ◌≡◌, true, false, List, ◌∷◌, ◌++◌, length, take}
+use Rattle.std.specs.Prelude.{ℕ, ◌+◌, ◌-◌, ◌≤◌, ◌<◌, max, ◌≡◌, true, false, List, ◌∷◌, ◌++◌, length, take, Ok, Err}
 use Rattle.std.proofs.Common.{arith, sym, ap, ◌∙◌, append_assoc, length-append, length-take-le}
 use Rattle.format.specs.declared.Fault.TheVariants as Fault
-use Rattle.format.specs.declared.Outcome.{Outcome}
+use Rattle.format.specs.Answers.{Outcome}
+use Rattle.spot.specs.Answers.{Spot}
+use Rattle.format.specs.declared.Refusal.{Refusal}
+use Rattle.format.specs.declared.Refusal.TheVariants.{At}
 use Rattle.format.specs.Format.{Bytes}
 use Rattle.format.specs.ReadWrite.{spelt}
 use Rattle.format.specs.Laws.ReadWrite.{length_spelt}
@@ -18,7 +21,6 @@ use Rattle.buffer.specs.Laid.{put_in}
 use Rattle.buffer.specs.Laws.Laid.{opened}
 use Rattle.buffer.specs.Laws.Holds.{Holds, holds_start, holds_open, holds_fill}
 use Rattle.spot.specs.declared.Site.{Site}
-use Rattle.spot.specs.declared.Spot.{Spot}
 use Rattle.steps.specs.Laws.Steps.{Here, here, name_end}
 use Rattle.given.specs.Given.{is_text, text_of}
 use Rattle.plan.specs.Edit.{become, rename, edited, renamed}
@@ -48,7 +50,7 @@ module _ (n : ℕ) (d : List ℕ) (p : Product) (v : ℕ) (rs : List Rule) (k : 
       let L = back k h.r.elements ++ rules (k + 1) h.later in
       omega (arith, ap length h.is, length-append B (front h.r ++ L), length-append (front h.r) L, front_long h.r, h.starts, length-take-le n d w)
 
-pub found_named : (edition n k : ℕ) (d : List ℕ) {c : Spot} {f : Site} {e : ℕ} → Bytes d → c ≡ found (λ rs. k) edition n d → c ≡ Spot.Is f → k < f.rules → e ≡ name_end d f.start → Named f e d
+pub found_named : (edition n k : ℕ) (d : List ℕ) {c : Spot} {f : Site} {e : ℕ} → Bytes d → c ≡ found (λ rs. k) edition n d → c ≡ Ok f → k < f.rules → e ≡ name_end d f.start → Named f e d
 found_named edition n k d {c} {f} {e} bs g h l z = go (ground (λ rs. k) edition n d bs g h)
   where
     go : Ground (λ rs. k) edition n d f → Named f e d
@@ -88,15 +90,15 @@ renamed_long d n s p v rs k h w bs t ea ee el =
 
 -- ---- what the code does: rule k is renamed s
 module _ (edition k : ℕ) (f : Site) (s d : List ℕ) where
-  pub rename_absent : f.rules ≤ k → Makes edition (λ rs. k) f (rename k s) d (Outcome.No Fault.Absent 0) d
+  pub rename_absent : f.rules ≤ k → Makes edition (λ rs. k) f (rename k s) d (Err (At Fault.Absent 0)) d
   unfolding Makes edited
   rename_absent l p v rs x o = made_no v f.bytes d (no_rule rs k _ (omega (arith, o.many)))
 
-  pub rename_text : k < f.rules → is_text s ≡ false → Makes edition (λ rs. k) f (rename k s) d (Outcome.No Fault.Text 0) d
+  pub rename_text : k < f.rules → is_text s ≡ false → Makes edition (λ rs. k) f (rename k s) d (Err (At Fault.Text 0)) d
   unfolding Makes edited
   rename_text l t p v rs x o = go (here p v (take f.bytes d) rs k o.sound (omega (arith, o.many)))
     where
-      go : Here p v (take f.bytes d) rs k → Does v f.bytes (edited p (rename k s) rs) d (Outcome.No Fault.Text 0) d
+      go : Here p v (take f.bytes d) rs k → Does v f.bytes (edited p (rename k s) rs) d (Err (At Fault.Text 0)) d
       go h = made_no v f.bytes d (at_rule_lem rs k _ h.from ∙ no_text s _ t)
 
   -- of a rule of a sound deck
@@ -130,14 +132,14 @@ module _ (edition k : ℕ) (f : Site) (s d : List ℕ) where
 
   -- its name ends at e; q is what 18, 19 and 20 were judged as
   module _ {e len n : ℕ} {q : Outcome} where
-    pub rename_out : k < f.rules → Bytes s → is_text s ≡ true → e ≡ name_end d f.start → len ≡ text_size s → n ≡ f.bytes - (e - (f.start + 4)) + len → q ≡ room_for f.rules n (length d) → ((w : ℕ) → q ≡ Outcome.Done w → ⊥) → Makes edition (λ rs. k) f (rename k s) d q d
+    pub rename_out : {r : Outcome} {why : Refusal} → k < f.rules → Bytes s → is_text s ≡ true → e ≡ name_end d f.start → len ≡ text_size s → n ≡ f.bytes - (e - (f.start + 4)) + len → q ≡ room_for f.rules n (length d) → q ≡ Err why → r ≡ Err why → Makes edition (λ rs. k) f (rename k s) d r d
     unfolding Makes
-    rename_out l bs t ee el en j x p v rs i o = go (here p v (take f.bytes d) rs k o.sound (omega (arith, o.many)))
+    rename_out {r = r} l bs t ee el en j x y p v rs i o = go (here p v (take f.bytes d) rs k o.sound (omega (arith, o.many)))
       where
-        go : Here p v (take f.bytes d) rs k → Does v f.bytes (edited p (rename k s) rs) d q d
-        go h = made_out v f.bytes d (becomes p v rs o h t) j x (many p v rs o h) (is_n p v rs o h (omega (arith, o.many)) bs t ee el en ∙ is_deck p v rs o h)
+        go : Here p v (take f.bytes d) rs k → Does v f.bytes (edited p (rename k s) rs) d r d
+        go h = made_out v f.bytes d (becomes p v rs o h t) j x y (many p v rs o h) (is_n p v rs o h (omega (arith, o.many)) bs t ee el en ∙ is_deck p v rs o h)
 
-    pub rename_done : {z y : List ℕ} (u : List ℕ) (r : ℕ) {w : ℕ} → k < f.rules → Bytes s → is_text s ≡ true → e ≡ name_end d f.start → len ≡ text_size s → n ≡ f.bytes - (e - (f.start + 4)) + len → q ≡ room_for f.rules n (length d) → q ≡ Outcome.Done w
+    pub rename_done : {z y : List ℕ} (u : List ℕ) (r : ℕ) {w : ℕ} → k < f.rules → Bytes s → is_text s ≡ true → e ≡ name_end d f.start → len ≡ text_size s → n ≡ f.bytes - (e - (f.start + 4)) + len → q ≡ room_for f.rules n (length d) → q ≡ Ok w
         → z ≡ opened d f.bytes (f.start + 4) e len → y ≡ put_in z (f.start + 4) (text_bytes s) → Finishes f f.rules n y r u → Makes edition (λ rs. k) f (rename k s) d q u
     unfolding Makes Handed
     rename_done {z} {y} u r l bs t ee el en j x ez ey fin p v rs i o = go (here p v (take f.bytes d) rs k o.sound (omega (arith, o.many)))

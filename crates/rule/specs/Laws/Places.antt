@@ -1,5 +1,5 @@
 -- Laws of ../Places.antt: where the fields of a written rule stand, one behind the other.
-use Rattle.std.specs.Prelude.{ℕ, ◌+◌, ◌-◌, ◌^◌, ◌<◌, ◌≡◌, Bool, eqb}
+use Rattle.std.specs.Prelude.{ℕ, ◌+◌, ◌-◌, ◌^◌, ◌<◌, ◌≡◌, Bool, eqb, Ok}
 use native.Mathlib.Omega.{arith}
 use Rattle.std.proofs.Math.Path.{refl}
 use Rattle.std.proofs.Common.{ap, ◌∙◌, lit<, eq-eqb, ne_eqb}
@@ -10,8 +10,7 @@ use Rattle.format.specs.Format.{pick}
 use Rattle.format.specs.ReadWrite.{pair_write, spelt, bit, each_write}
 use Rattle.format.specs.Laws.ReadWrite.{length_spelt, length_before}
 use Rattle.format.specs.Combinators.{pair, judged, via, seq, ◌then◌, number, count, fixed, flag, each, counted, sized, measured}
-use Rattle.format.specs.declared.Read.{Read}
-use Rattle.format.specs.declared.Read.TheVariants.{Got}
+use Rattle.format.specs.Answers.{Read}
 use Rattle.format.specs.Laws.Seen.{seen, itself}
 use Rattle.format.specs.Laws.Back.{back_got}
 use Rattle.format.specs.Laws.Written.{behind as past, Stands, Held, Row}
@@ -58,7 +57,7 @@ module _ (p : Product) (i : ℕ) (s : List ℕ) (at : ℕ) (xs : List Element) (
       }
 
 -- the count as it was read, and the head behind it
-pub behind_count : (p : Product) (i : ℕ) (s : List ℕ) (at : ℕ) {xs : List Element} {u : List ℕ} {c : Read} {n m : ℕ} → BodyParts p i s at xs u → c ≡ seen itself (number 2) s at → c ≡ Got m n
+pub behind_count : (p : Product) (i : ℕ) (s : List ℕ) (at : ℕ) {xs : List Element} {u : List ℕ} {c : Read} {n m : ℕ} → BodyParts p i s at xs u → c ≡ seen itself (number 2) s at → c ≡ Ok (m, n)
     → (n ≡ length xs) × ((m ≡ at + 2) × Held (head i) s m tt)
 unfolding number
 behind_count p i s at {xs = xs} {m = m} b e h =

@@ -1,18 +1,19 @@
 -- Laws of ../Rule.antt: how the code reads a rule, and which rules fit.
-use Rattle.std.specs.Prelude.{ℕ, ◌+◌, ◌*◌, ◌^◌, ◌<◌, ◌≤◌, ◌≡◌, refl, Bool, List, [], ◌∷◌, length, eqb}
+use Rattle.std.specs.Prelude.{ℕ, ◌+◌, ◌*◌, ◌^◌, ◌<◌, ◌≤◌, ◌≡◌, refl, Bool, List, [], ◌∷◌, length, eqb, Ok, Err}
 use Rattle.std.proofs.Common.{arith, ◌∙◌, lit<, eq-eqb, ne_eqb}
 use Rattle.std.proofs.Math.Path.{sym}
 use Rattle.std.proofs.Math.Bool.{true, false}
 use Rattle.format.specs.declared.Fault.{Fault}
-use Rattle.format.specs.declared.Read.{Read}
-use Rattle.format.specs.declared.Read.TheVariants.{Got, No}
+use Rattle.format.specs.Answers.{Read}
+use Rattle.format.specs.declared.Refusal.{Refusal}
+use Rattle.format.specs.declared.Refusal.TheVariants.{At}
 use Rattle.format.specs.Format.{Bytes, pick}
 use Rattle.format.specs.ReadWrite.{value, AllFit}
 use Rattle.format.specs.Laws.ReadWrite.{within_is}
 use Rattle.format.specs.Combinators.{pair, judged, via, seq, ◌then◌, number, count, fixed, bytes, counted, sized, measured}
 use Rattle.format.specs.Laws.Combinators.{then_fit}
 use Rattle.format.specs.Laws.Back.{seen_fits}
-use Rattle.format.specs.Laws.Seen.{seen, itself, none, unlike, via_is, pair_stop, then_stop, then_go, number_no}
+use Rattle.format.specs.Laws.Seen.{ok_parts, seen, itself, none, unlike, via_is, pair_stop, then_stop, then_go, number_no}
 use Rattle.kind.specs.declared.Product.{Product}
 use Rattle.element.specs.Element.{Element, element}
 use Rattle.element.specs.Laws.Element.{named, ComputingElements}
@@ -44,10 +45,10 @@ fits_placed p j x f = go (eqb j 0) f
 
 -- what stands before the element at place j of its rule: 8001 where it is not the first
 unfoldable pub lead_at : ℕ → List ℕ → ℕ → Read
-lead_at j s at = pick (eqb j 0) (Got at 0) (seen none separator s at)
+lead_at j s at = pick (eqb j 0) (Ok (at, 0)) (seen none separator s at)
 
 module _ (j : ℕ) (s : List ℕ) (at : ℕ) where
-  pub lead_first : j ≡ 0 → Got at 0 ≡ lead_at j s at
+  pub lead_first : j ≡ 0 → Ok (at, 0) ≡ lead_at j s at
   unfolding lead_at pick
   lead_first e = rw (eq-eqb j 0 e)
 
@@ -56,20 +57,20 @@ module _ (j : ℕ) (s : List ℕ) (at : ℕ) where
   lead_later e h = rw (ne_eqb j 0 e) h
 
 module _ (p : Product) (j : ℕ) (s : List ℕ) (at : ℕ) {b : Read} where
-  pub lead_stop : {c : Fault} {q : ℕ} → b ≡ lead_at j s at → b ≡ No q c → b ≡ seen named (placed p j) s at
+  pub lead_stop : {why : Refusal} → b ≡ lead_at j s at → b ≡ Err why → b ≡ seen named (placed p j) s at
   unfolding lead_at placed pick
-  lead_stop {c} {q} e h = go (eqb j 0) e
+  lead_stop e h = go (eqb j 0) e
     where
-      go : (t : Bool) → b ≡ pick t (Got at 0) (seen none separator s at) → b ≡ seen named (pick t (element p) (separator then element p)) s at
+      go : (t : Bool) → b ≡ pick t (Ok (at, 0)) (seen none separator s at) → b ≡ seen named (pick t (element p) (separator then element p)) s at
       go true f = unlike f h
       go false f = then_stop named separator (element p) s at f h
 
-  pub lead_go : {v q : ℕ} {r : Read} → b ≡ lead_at j s at → b ≡ Got q v → r ≡ seen named (element p) s q → r ≡ seen named (placed p j) s at
+  pub lead_go : {v q : ℕ} {r : Read} → b ≡ lead_at j s at → b ≡ Ok (q, v) → r ≡ seen named (element p) s q → r ≡ seen named (placed p j) s at
   unfolding lead_at placed pick
   lead_go {v} {q} {r} e h o = go (eqb j 0) e
     where
-      go : (t : Bool) → b ≡ pick t (Got at 0) (seen none separator s at) → r ≡ seen named (pick t (element p) (separator then element p)) s at
-      go true f = let z : Got q v ≡ Got at 0 = sym h ∙ f in let y : q ≡ at = cc in rw y at o
+      go : (t : Bool) → b ≡ pick t (Ok (at, 0)) (seen none separator s at) → r ≡ seen named (pick t (element p) (separator then element p)) s at
+      go true f = rw (ok_parts (sym h ∙ f)).0 at o
       go false f = then_go named separator (element p) s at f h o
 
 -- the twelve bytes of the class name as two numbers
@@ -78,7 +79,7 @@ unfolding bytes class_name value
 class_is s at e = e
 
 -- there is no rule past the end
-pub rule_past : (p : Product) (i : ℕ) (s : List ℕ) (at : ℕ) → length s < at → No at Fault.Cut ≡ seen elements_in (rule p i) s at
+pub rule_past : (p : Product) (i : ℕ) (s : List ℕ) (at : ℕ) → length s < at → Err (At Fault.Cut at) ≡ seen elements_in (rule p i) s at
 unfolding rule fields seq
 rule_past p i s at h = via_is elements_in _ _ _ _ s at (pair_stop _ (number 4) _ s at itself (number_no 4 s at (omega arith)) refl)
 
@@ -87,7 +88,7 @@ pub rule_fits : (p : Product) (i : ℕ) (r : Rule) → (rule p i).Fit r → (1 �
 unfolding rule fields from_unknown2 from_unknown4 body sized counted count seq via judged pair measured
 rule_fits p i r f = within_is 1 64 (elements_in r) f.0.1.1.1.1.1.1.1.0.0.1.0.0.0.1
 
-pub rule_small : (p : Product) (i : ℕ) (s : List ℕ) (at : ℕ) {r : Read} {v m : ℕ} → Bytes s → r ≡ seen elements_in (rule p i) s at → r ≡ Got m v → v ≤ 64
+pub rule_small : (p : Product) (i : ℕ) (s : List ℕ) (at : ℕ) {r : Read} {v m : ℕ} → Bytes s → r ≡ seen elements_in (rule p i) s at → r ≡ Ok (m, v) → v ≤ 64
 rule_small p i s at bs e h = let o = seen_fits elements_in (rule p i) s at bs e h in rw o.1.1 (rule_fits p i o.0 o.1.0).1
 
 -- ---- where a case is computed

@@ -1,7 +1,8 @@
 -- Laws of ../Sent.antt: a promise of the library, packed; no place of one is above 60,000.
 use Rattle.std.specs.Prelude.{ℕ, ◌≤◌, ◌%◌, ◌^◌, ◌≡◌, List, length}
 use Rattle.std.proofs.Common.{arith, ap, ◌∙◌}
-use Rattle.format.specs.declared.Outcome.{Outcome}
+use Rattle.format.specs.Answers.{Outcome}
+use Rattle.view.specs.Answers.{View}
 use Rattle.format.specs.Fault.{place_of, packed, Said}
 use Rattle.format.specs.Format.{Bytes}
 use Rattle.packed.specs.Laws.Packed.{packed_whole}
@@ -10,7 +11,6 @@ use Rattle.plan.specs.Edit.{Edit, says, Edits}
 use Rattle.plan.specs.Handed.{Handed}
 use Rattle.convert.specs.Convert.{other_plan}
 use Rattle.start.specs.Start.{start_says}
-use Rattle.view.specs.declared.View.{View}
 use Rattle.view.specs.Laws.View.{Inside}
 use Rattle.view.specs.View.{view_says}
 use Rattle.bounds.specs.Laws.Places.{plan_small}

@@ -1,5 +1,5 @@
 -- Laws of ../Left.antt: any run, from an accepted deck or a started one, leaves the buffer so.
-use Rattle.std.specs.Prelude.{ℕ, ◌≤◌, ◌≡◌, refl, length, take}
+use Rattle.std.specs.Prelude.{ℕ, ◌≤◌, ◌≡◌, refl, length, take, Some}
 use Rattle.std.proofs.Common.{arith, sym, ap, ap₂, ◌∙◌, length-take-le}
 use mathlib.Core.List.{List, [], ◌∷◌}
 use Rattle.format.specs.Fault.{code_of, place_of}
@@ -7,7 +7,6 @@ use Rattle.format.specs.Format.{got, Bytes}
 use Rattle.format.specs.Laws.Format.{bytes_take}
 use Rattle.kind.specs.declared.Product.{Product}
 use Rattle.kind.specs.declared.Product.TheVariants.{Studio}
-use Rattle.kind.specs.declared.Edition.TheVariants as Edition
 use Rattle.kind.specs.Kinds.{edition_of}
 use Rattle.deck.specs.Deck.{Deck, deck, read_as}
 use Rattle.deck.specs.Laws.Deck.{read_writes_back}
@@ -72,7 +71,7 @@ left p d l b g f e =
       as_long = length_laid (afresh l.0) l.1 d g.below g.room;
     })
 
-module _ (edition : ℕ) (p : Product) (ed : edition_of edition ≡ Edition.Of p) (cap : ℕ) where
+module _ (edition : ℕ) (p : Product) (ed : edition_of edition ≡ Some p) (cap : ℕ) where
   step_in : (e : Edit) (l : Rules) → Good cap l → (deck p).Fit l.0 → step_rules cap (edition, e) l ≡ taken (plan_in p cap e l.0) l
   unfolding step_rules
   step_in e l g f = let r = reads_back p l.0 f g.short in rw (ed, r)
@@ -99,7 +98,7 @@ module _ {A : Type 0} {P : Promise A} {next : ℕ → A → ℕ} (is : Steps P n
       let g = good_run (length d) cs l w.0 f.good in
       left Studio d (run_rules (length d) cs l) b' g g.fit (w.1 ∙ ap (run cs) f.is ∙ runs d cs l w.0 f.good)
 
-  pub left_in : (edition : ℕ) (es : List Edit) → edition_of edition ≡ Edition.Of p → Begins p d l b → Ran P next (calls edition es) b b' → Left p d (run_in p (length d) es l) b'
+  pub left_in : (edition : ℕ) (es : List Edit) → edition_of edition ≡ Some p → Begins p d l b → Ran P next (calls edition es) b b' → Left p d (run_in p (length d) es l) b'
   left_in edition es ed f h =
       let w = ran_is P next is (calls edition es) b b' h in
       let r = run_in_lem edition p ed (length d) es l w.0 f.good f.fit in

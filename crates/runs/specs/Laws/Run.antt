@@ -1,14 +1,14 @@
 -- Laws of ../Run.antt: a run of edits of a buffer is the same run on the deck.
-use Rattle.std.specs.Prelude.{ℕ, ◌≤◌, ◌≡◌, take}
+use Rattle.std.specs.Prelude.{ℕ, ◌≤◌, ◌≡◌, take, Some, None}
 use Rattle.std.proofs.Common.{arith, ap₂, ◌∙◌, le-leb}
 use Rattle.std.proofs.Math.Path.{refl, ap}
 use mathlib.Core.List.{List, [], ◌∷◌}
 use Rattle.std.proofs.Math.ListN.{length}
-use Rattle.format.specs.declared.Outcome.{Outcome}
+use Rattle.kind.specs.Answers.{Edition}
+use Rattle.format.specs.Answers.{Outcome}
 use Rattle.format.specs.Format.{Answer, got, refused, pick}
 use Rattle.kind.specs.declared.Product.{Product}
 use Rattle.kind.specs.declared.Product.TheVariants.{Studio}
-use Rattle.kind.specs.declared.Edition.{Edition}
 use Rattle.kind.specs.Kinds.{edition_of}
 use Rattle.deck.specs.Deck.{Deck, version, deck, read_as}
 use Rattle.deck.specs.Written.{afresh}
@@ -73,8 +73,8 @@ module _ (cap : ℕ) where
       read p (refused x q) r = g
 
       by : (o : Edition) → Good cap (taken (plan_rules o cap c.1 l.0) l)
-      by (Edition.Of p) = read p (read_as p (afresh l.0)) refl
-      by Edition.Unknown = g
+      by (Some p) = read p (read_as p (afresh l.0)) refl
+      by None = g
 
   pub good_run : (cs : List Call) (l : Rules) → Every (λ c. Handed c.1) cs → Good cap l → Good cap (run_rules cap cs l)
   unfolding run_rules Every
@@ -99,8 +99,8 @@ module _ (cap : ℕ) where
       read p (refused x q) = refl
 
       by : (o : Edition) → (taken (plan_rules o cap c.1 l.0) l).0.version ≡ l.0.version
-      by (Edition.Of p) = read p (read_as p (afresh l.0))
-      by Edition.Unknown = refl
+      by (Some p) = read p (read_as p (afresh l.0))
+      by None = refl
 
   pub kept_version : (cs : List Call) (l : Rules) → (run_rules cap cs l).0.version ≡ l.0.version
   unfolding run_rules
@@ -118,14 +118,14 @@ module _ (d : List ℕ) where
       read p (refused x q) r = refl
 
       by : (o : Edition) → plan_by o (length (afresh l.0)) (laid (afresh l.0) l.1 d) c.1 ≡ plan_rules o (length d) c.1 l.0
-      by (Edition.Of p) =
+      by (Some p) =
           let y = laid (afresh l.0) l.1 d in
           let n = length (afresh l.0) in
           let t : take n y ≡ afresh l.0 = take_laid (afresh l.0) l.1 d refl in
           let w : length y ≡ length d = length_laid (afresh l.0) l.1 d g.below g.room in
           let b : n ≤ length y = omega (arith, g.below, g.room, w) in
           rw (le-leb n (length y) b, t, w) (read p (read_as p (afresh l.0)) refl)
-      by Edition.Unknown = refl
+      by None = refl
 
   step_is : (c : Call) (l : Rules) → Good (length d) l → step c (buffer_with d l) ≡ buffer_with d (step_rules (length d) c l)
   unfolding step step_rules leaves says

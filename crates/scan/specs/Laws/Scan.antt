@@ -1,19 +1,29 @@
--- How a refusal is handed on as that of a pass.
-use Rattle.std.specs.Prelude.{ℕ, ◌≡◌}
-use Rattle.std.proofs.Common.{ap, ◌∙◌}
-use Rattle.format.specs.declared.Fault.{Fault}
-use Rattle.format.specs.declared.Outcome.{Outcome}
-use Rattle.format.specs.declared.Outcome.TheVariants.{Done, No, Given}
-use Rattle.format.specs.declared.Read.{Read}
-use Rattle.format.specs.Laws.Fault.{end_says}
-use Rattle.scan.specs.declared.Scan.{Scan}
+-- The four that a pass tells, each apart.
+use Rattle.std.specs.Prelude.{ℕ, ◌≡◌, Ok, Err}
+use Rattle.std.proofs.Common.{ap}
+use Rattle.scan.specs.Answers.{Scan}
 
--- a refusal as that of a pass
-abbrev pub no_scan : Outcome → Scan
-no_scan (Done n) = Scan.Is 0 0 0 0
-no_scan (No c p) = Scan.No c p
-no_scan (Given c p) = Scan.No c p
+abbrev version_in : Scan → ℕ
+version_in (Ok (v, b, n, m)) = v
+version_in (Err why) = 0
 
--- a reader's refusal, handed on
-pub scan_hands : {h : Read} {o : Outcome} {x : Scan} {c : Fault} {q : ℕ} → h ≡ Read.No q c → o ≡ end_says h → x ≡ no_scan o → x ≡ Scan.No c q
-scan_hands k e f = f ∙ ap no_scan (e ∙ ap end_says k)
+abbrev base_in : Scan → ℕ
+base_in (Ok (v, b, n, m)) = b
+base_in (Err why) = 0
+
+abbrev rules_in : Scan → ℕ
+rules_in (Ok (v, b, n, m)) = n
+rules_in (Err why) = 0
+
+abbrev elements_in : Scan → ℕ
+elements_in (Ok (v, b, n, m)) = m
+elements_in (Err why) = 0
+
+pub record Alike (v b n m v' b' n' m' : ℕ) : Type 0 where
+  pub version : v ≡ v'
+  pub base : b ≡ b'
+  pub rules : n ≡ n'
+  pub elements : m ≡ m'
+
+pub scan_parts : {v b n m v' b' n' m' : ℕ} → ◌≡◌ {A = Scan} (Ok (v, b, n, m)) (Ok (v', b', n', m')) → Alike v b n m v' b' n' m'
+scan_parts e = record { version = ap version_in e; base = ap base_in e; rules = ap rules_in e; elements = ap elements_in e }

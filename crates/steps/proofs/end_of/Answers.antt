@@ -13,13 +13,13 @@ pub returns-in_default-f : goal.returns-in_default-f
 returns-in_default-f c = search (rules, following)
 
 pub overflow_add-e : goal.overflow_add-e
-overflow_add-e c = omega (arith, (fours_got c.args.s.now c.in-Got.e 6 c.numbers_at-f.ensures c.in-Got-f.is).0)
+overflow_add-e c = omega (arith, (fours_got c.args.s.now c.in-Ok.e 6 c.numbers_at-f.ensures c.in-Ok-f.is).0)
 
 pub returns-in_default-z : goal.returns-in_default-z
 returns-in_default-z c = search (rules, following)
 
 pub overflow_add-end : goal.overflow_add-end
-overflow_add-end c = omega (arith, number_got 4 c.args.s.now _ (bytes_all c.args.s.now c.shared_slice_known-1.given) (omega arith) c.u32_at-z.ensures c.in-Got-z.is)
+overflow_add-end c = omega (arith, number_got 4 c.args.s.now _ (bytes_all c.args.s.now c.shared_slice_known-1.given) (omega arith) c.u32_at-z.ensures c.in-Ok-z.is)
 
 pub returns-then-s-end : goal.returns-then-s-end
 returns-then-s-end c = search (rules, following)

@@ -12,4 +12,4 @@ pub returns-in_default : goal.returns-in_default
 returns-in_default c = starts_unread _ _ _ _ (omega (arith, c.if-version-ne2.false)) c.u32_at-o.ensures _ c.in_default.is
 
 pub returns : goal.returns
-returns c = starts_offset _ _ _ _ (omega (arith, c.if-version-ne2.false)) c.u32_at-o.ensures c.in-Got.is
+returns c = starts_offset _ _ _ _ (omega (arith, c.if-version-ne2.false)) c.u32_at-o.ensures c.in-Ok.is

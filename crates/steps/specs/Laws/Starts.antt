@@ -1,5 +1,5 @@
 -- Where rule k of a sound deck starts: in version 2 its offset says it, in version 1 the rules before it are stepped over.
-use Rattle.std.specs.Prelude.{ℕ, zero, suc, ◌+◌, ◌*◌, ◌≤◌, ◌<◌, ◌≡◌, take, drop}
+use Rattle.std.specs.Prelude.{ℕ, zero, suc, ◌+◌, ◌*◌, ◌≤◌, ◌<◌, ◌≡◌, take, drop, Ok, Err}
 use Rattle.std.proofs.Common.{add-zero, mul-suc, mul-zero, ◌∙◌}
 use native.Mathlib.Omega.{arith}
 use Rattle.std.proofs.Math.Path.{sym, ap}
@@ -7,15 +7,15 @@ use mathlib.Core.List.{List, [], ◌∷◌, ◌++◌, append_assoc}
 use Rattle.std.proofs.Math.ListN.{length, length-append}
 use Rattle.std.proofs.Math.Seq.{drop_at}
 use Rattle.format.specs.declared.Fault.{Fault}
-use Rattle.format.specs.declared.Read.{Read}
-use Rattle.format.specs.declared.Read.TheVariants.{Got, No}
+use Rattle.format.specs.Answers.{Read}
+use Rattle.format.specs.declared.Refusal.{Refusal}
 use Rattle.format.specs.Format.{Format}
 use Rattle.format.specs.ReadWrite.{spelt, each_write}
 use Rattle.format.specs.Laws.ReadWrite.{length_spelt}
 use Rattle.format.specs.Combinators.{number}
 use Rattle.format.specs.Index.{index_write}
 use Rattle.format.specs.Row.{start_in}
-use Rattle.format.specs.Laws.Seen.{seen, itself, unlike, got_at}
+use Rattle.format.specs.Laws.Seen.{ok_parts, seen, itself, unlike, got_at}
 use Rattle.format.specs.Laws.Written.{Held, behind}
 use Rattle.format.specs.Laws.Back.{back_got, back_no}
 use Rattle.kind.specs.declared.Product.{Product}
@@ -75,7 +75,7 @@ module _ (p : Product) (v : ℕ) (s : List ℕ) (rs : List Rule) (o : Sound p v 
 
 -- whatever rules a sound deck of that version has, which start at base, r tells where rule k starts
 unfoldable pub Starts : List ℕ → ℕ → ℕ → ℕ → Read → Type 0
-Starts s v base k r = (p : Product) (rs : List Rule) → Sound p v s rs → base ≡ base_of v (length rs) → k < length rs → r ≡ Got (start_of v rs k) 0
+Starts s v base k r = (p : Product) (rs : List Rule) → Sound p v s rs → base ≡ base_of v (length rs) → k < length rs → r ≡ Ok (start_of v rs k, 0)
 
 module _ (s : List ℕ) (v base k : ℕ) where
   -- the rules before it were stepped over
@@ -85,11 +85,11 @@ module _ (s : List ℕ) (v base k : ℕ) where
 
   -- z is what its offset was read as
   module _ {z : Read} (e : v ≡ 2) (f : z ≡ seen itself (number 4) s (7 + 4 * k)) where
-    pub starts_unread : (r : Read) {c : Fault} {q : ℕ} → z ≡ No q c → Starts s v base k r
+    pub starts_unread : (r : Read) {why : Refusal} → z ≡ Err why → Starts s v base k r
     unfolding Starts
     starts_unread r h p rs o b l = back_no itself (number 4) s (7 + 4 * k) (offset_stands p v s rs o k e l).1 f h
 
-    pub starts_offset : {at q : ℕ} → z ≡ Got q at → Starts s v base k (Got at 0)
+    pub starts_offset : {at q : ℕ} → z ≡ Ok (q, at) → Starts s v base k (Ok (at, 0))
     unfolding Starts
     starts_offset h p rs o b l = got_at (back_got itself (number 4) s (7 + 4 * k) (offset_stands p v s rs o k e l).1 f h).0
 
@@ -100,10 +100,10 @@ module _ (s : List ℕ) (v base k : ℕ) where
 
   -- r is what was told
   module _ {r : Read} (w : Starts s v base k r) (p : Product) (rs : List Rule) (o : Sound p v s rs) (b : base ≡ base_of v (length rs)) (l : k < length rs) where
-    pub starts_is : {u at : ℕ} → r ≡ Got at u → at ≡ start_of v rs k
+    pub starts_is : {u at : ℕ} → r ≡ Ok (at, u) → at ≡ start_of v rs k
     unfolding Starts
-    starts_is {u} {at} h = let g : Got at u ≡ Got (start_of v rs k) 0 = sym h ∙ w p rs o b l in cc
+    starts_is h = (ok_parts (sym h ∙ w p rs o b l)).0
 
-    pub starts_never : {B : Type 0} {c : Fault} {q : ℕ} → r ≡ No q c → B
+    pub starts_never : {B : Type 0} {why : Refusal} → r ≡ Err why → B
     unfolding Starts
     starts_never h = unlike (w p rs o b l) h

@@ -1,5 +1,5 @@
 -- From rule to rule of a sound deck.
-use Rattle.std.specs.Prelude.{ℕ, ◌+◌, ◌-◌, ◌≤◌, ◌<◌, ◌≡◌, Bool, drop}
+use Rattle.std.specs.Prelude.{ℕ, ◌+◌, ◌-◌, ◌≤◌, ◌<◌, ◌≡◌, Bool, drop, Ok, Err}
 use Rattle.std.proofs.Common.{arith, ◌∙◌, length-append, drop_at}
 use Rattle.std.proofs.Math.Decide.{dec_lt}
 use Rattle.std.proofs.Math.Path.{refl, sym, ap}
@@ -10,18 +10,21 @@ use Rattle.std.proofs.Math.Dec.{leb}
 use borrow.Author.Tests.{le-leb, lt-leb, leb-true}
 use Rattle.std.proofs.Math.Seq.{take_all}
 use Rattle.format.specs.declared.Fault.{Fault}
-use Rattle.format.specs.declared.Read.{Read}
-use Rattle.format.specs.declared.Read.TheVariants.{Got, No}
+use Rattle.format.specs.Answers.{Read}
+use Rattle.format.specs.declared.Refusal.{Refusal}
+use Rattle.format.specs.declared.Refusal.TheVariants.{At}
 use Rattle.format.specs.Format.{got, Bytes, pick}
 use Rattle.format.specs.Laws.ReadWrite.{length_spelt}
 use Rattle.format.specs.ReadWrite.{value}
 use Rattle.format.specs.Combinators.{number, each}
-use Rattle.format.specs.Laws.Seen.{seen, itself, unlike, got_at, none, number_is, number_no}
+use Rattle.format.specs.Laws.Seen.{ok_parts, seen, itself, unlike, got_at, none, number_is, number_no}
 use Rattle.format.specs.Laws.Fours.{fours_no}
 use Rattle.format.specs.Laws.Written.{Held, Row}
 use Rattle.format.specs.Laws.Back.{Where, stands_seen, stands_room, seen_ends}
 use Rattle.format.specs.Row.{start_in}
-use Rattle.format.specs.Laws.Skip.{Skipped, skip_start, skip_step, skip_end, skip_nth, Nth, nth, start_more}
+use Rattle.format.specs.Laws.Skip.{Skipped, Nth, nth, start_more}
+use Rattle.each.specs.Laws.Chain.{Chain}
+use Rattle.each.specs.Laws.Row.{chain_ends}
 use Rattle.text.specs.Text.{string}
 use Rattle.kind.specs.declared.Product.{Product}
 use Rattle.rule.specs.Rule.{Rule, rule}
@@ -87,22 +90,22 @@ here_at p v s rs k a h e = rw e (here_stands p v s rs k h)
 
 -- whatever rule stands at a place, r tells where it ends
 unfoldable pub Follows : List ℕ → ℕ → Read → Type 0
-Follows s at r = (p : Product) (i : ℕ) → Where (rule p i) s at (λ x. Got (at + rule_bytes p i x) 0) r
+Follows s at r = (p : Product) (i : ℕ) → Where (rule p i) s at (λ x. Ok (at + rule_bytes p i x, 0)) r
 
 -- the name of the rule that starts at a place: behind the 4 bytes of its signature
 unfoldable pub name_read : List ℕ → ℕ → Read
-name_read s at = pick (leb 4 (length s - at)) (seen none string s (at + 4)) (No at Fault.Cut)
+name_read s at = pick (leb 4 (length s - at)) (seen none string s (at + 4)) (Err (At Fault.Cut at))
 
 -- where it ends; where no String can be read there, the place itself
 abbrev pub ended : ℕ → Read → ℕ
-ended at (Got n v) = n
-ended at (No q c) = at
+ended at (Ok (n, v)) = n
+ended at (Err why) = at
 
 unfoldable pub name_end : List ℕ → ℕ → ℕ
 name_end s at = ended at (name_read s at)
 
 module _ (s : List ℕ) (at : ℕ) where
-  pub name_read_lem : (p : Product) (i : ℕ) (x : Rule) → Held (rule p i) s at x → name_read s at ≡ Got (enabled_at at x) 0
+  pub name_read_lem : (p : Product) (i : ℕ) (x : Rule) → Held (rule p i) s at x → name_read s at ≡ Ok (enabled_at at x, 0)
   unfolding name_read pick
   name_read_lem p i x b =
       let y = rule_parts p i s at x b.0 b.1 in
@@ -119,7 +122,7 @@ module _ (s : List ℕ) (at : ℕ) where
 
   -- g is what the signature was read as
   module _ {g : Read} (e : g ≡ seen itself (number 4) s at) where
-    pub name_past : {c : Fault} {q : ℕ} → g ≡ No q c → g ≡ name_read s at
+    pub name_past : {why : Refusal} → g ≡ Err why → g ≡ name_read s at
     unfolding name_read pick
     name_past h =
         elim (dec_lt (length s - at) 4) [
@@ -127,14 +130,14 @@ module _ (s : List ℕ) (at : ℕ) where
           | no l ↦ unlike (e ∙ sym (number_is 4 s at refl (omega arith))) h
         ]
 
-    pub name_is : {t : Read} {v m : ℕ} → g ≡ Got m v → t ≡ seen none string s m → t ≡ name_read s at
+    pub name_is : {t : Read} {v m : ℕ} → g ≡ Ok (m, v) → t ≡ seen none string s m → t ≡ name_read s at
     unfolding name_read pick
     name_is {m = m} h f =
         elim (dec_lt (length s - at) 4) [
           | yes l ↦ unlike h (e ∙ sym (number_no 4 s at l))
           | no l ↦
-              let w : Got (at + 4) (value (take 4 (drop at s))) ≡ g = number_is 4 s at refl (omega arith) ∙ sym e in
-              let z : m ≡ at + 4 = cc in
+              let w : ◌≡◌ {A = Read} (Ok (at + 4, value (take 4 (drop at s)))) g = number_is 4 s at refl (omega arith) ∙ sym e in
+              let z : m ≡ at + 4 = (ok_parts (sym h ∙ sym w)).0 in
               rw (le-leb 4 (length s - at) (omega arith)) (rw z at f)
         ]
 
@@ -142,56 +145,56 @@ module _ (s : List ℕ) (at : ℕ) where
   unfolding name_end name_read pick
   name_within l = go (leb 4 (length s - at)) refl (seen none string s (at + 4)) refl
     where
-      go : (b : Bool) → leb 4 (length s - at) ≡ b → (t : Read) → seen none string s (at + 4) ≡ t → ended at (pick b t (No at Fault.Cut)) ≤ length s
-      go true e (Got n v) f = omega (arith, leb-true 4 (length s - at) e, seen_ends none string s (at + 4) refl f)
-      go true e (No q c) f = l
+      go : (b : Bool) → leb 4 (length s - at) ≡ b → (t : Read) → seen none string s (at + 4) ≡ t → ended at (pick b t (Err (At Fault.Cut at))) ≤ length s
+      go true e (Ok (n, v)) f = omega (arith, leb-true 4 (length s - at) e, seen_ends none string s (at + 4) refl f)
+      go true e (Err why) f = l
       go false e t f = l
 
   -- t is what the name was read as
   module _ {t : Read} (f : t ≡ name_read s at) where
-    pub name_got : {u m : ℕ} → t ≡ Got m u → m ≡ name_end s at
+    pub name_got : {u m : ℕ} → t ≡ Ok (m, u) → m ≡ name_end s at
     unfolding name_end
     name_got h = ap (ended at) (sym h ∙ f)
 
-    pub name_never : {B : Type 0} {c : Fault} {q : ℕ} → t ≡ No q c → (p : Product) (i : ℕ) (x : Rule) → Held (rule p i) s at x → B
+    pub name_never : {B : Type 0} {why : Refusal} → t ≡ Err why → (p : Product) (i : ℕ) (x : Rule) → Held (rule p i) s at x → B
     name_never h p i x b = unlike (f ∙ name_read_lem p i x b) h
 
   -- m is where the name ends, z what Data Size was read as
   module _ {m : ℕ} {z : Read} where
-    pub size_read : (p : Product) (i : ℕ) (x : Rule) → Held (rule p i) s at x → m ≡ name_end s at → z ≡ seen itself (number 4) s (m + 20) → z ≡ Got (m + 20 + 4) (size_of i x.elements)
+    pub size_read : (p : Product) (i : ℕ) (x : Rule) → Held (rule p i) s at x → m ≡ name_end s at → z ≡ seen itself (number 4) s (m + 20) → z ≡ Ok (m + 20 + 4, size_of i x.elements)
     unfolding number
     size_read p i x b e f =
         let w = e ∙ name_end_lem p i x b in
         let y = (rule_parts p i s at x b.0 b.1).sizes in
         rw w (rw w at f ∙ (rw (length_spelt, body_size) at (stands_seen itself (number 4) s _ y.1)))
 
-    pub size_is : {v q : ℕ} (p : Product) (i : ℕ) (x : Rule) → Held (rule p i) s at x → m ≡ name_end s at → z ≡ seen itself (number 4) s (m + 20) → z ≡ Got q v → (v ≡ size_of i x.elements) × (q ≡ m + 20 + 4)
-    size_is {v} {q} p i x b e f k = let g : Got q v ≡ Got (m + 20 + 4) (size_of i x.elements) = sym k ∙ size_read p i x b e f in ((cc), (cc))
+    pub size_is : {v q : ℕ} (p : Product) (i : ℕ) (x : Rule) → Held (rule p i) s at x → m ≡ name_end s at → z ≡ seen itself (number 4) s (m + 20) → z ≡ Ok (q, v) → (v ≡ size_of i x.elements) × (q ≡ m + 20 + 4)
+    size_is p i x b e f k = let g = ok_parts (sym k ∙ size_read p i x b e f) in (g.1, g.0)
 
   module _ {t : Read} where
-    pub follows_unnamed : (r : Read) {c : Fault} {q : ℕ} → t ≡ name_read s at → t ≡ No q c → Follows s at r
+    pub follows_unnamed : (r : Read) {why : Refusal} → t ≡ name_read s at → t ≡ Err why → Follows s at r
     unfolding Follows Where
     follows_unnamed r f h p i x b = name_never f h p i x b
 
     module _ {u m : ℕ} where
-      pub follows_short : (r : Read) {w : Read} {c : Fault} {q : ℕ} → t ≡ name_read s at → t ≡ Got m u → w ≡ seen none (each (λ i. number 4) 0 6) s m → w ≡ No q c → Follows s at r
+      pub follows_short : (r : Read) {w : Read} {why : Refusal} → t ≡ name_read s at → t ≡ Ok (m, u) → w ≡ seen none (each (λ i. number 4) 0 6) s m → w ≡ Err why → Follows s at r
       unfolding Follows Where
       follows_short r f h g k p i x b = absurd (omega (arith, name_got f h, all_there p i x b, (fours_no s m 6 g k).0))
 
       module _ {z : Read} where
-        pub follows_unsized : (r : Read) {c : Fault} {q : ℕ} → t ≡ name_read s at → t ≡ Got m u → z ≡ seen itself (number 4) s (m + 20) → z ≡ No q c → Follows s at r
+        pub follows_unsized : (r : Read) {why : Refusal} → t ≡ name_read s at → t ≡ Ok (m, u) → z ≡ seen itself (number 4) s (m + 20) → z ≡ Err why → Follows s at r
         unfolding Follows Where
         follows_unsized r f h o k p i x b = unlike (size_read p i x b (name_got f h) o) k
 
         module _ {v q : ℕ} where
-          pub follows_cut : (r : Read) → t ≡ name_read s at → t ≡ Got m u → z ≡ seen itself (number 4) s (m + 20) → z ≡ Got q v → length s < q + v → Follows s at r
+          pub follows_cut : (r : Read) → t ≡ name_read s at → t ≡ Ok (m, u) → z ≡ seen itself (number 4) s (m + 20) → z ≡ Ok (q, v) → length s < q + v → Follows s at r
           unfolding Follows Where
           follows_cut r f h o k l p i x b =
               let e = name_got f h in
               let d = size_is p i x b e o k in
               absurd (omega (arith, all_there p i x b, d.0, d.1, e))
 
-          pub follows_is : t ≡ name_read s at → t ≡ Got m u → z ≡ seen itself (number 4) s (m + 20) → z ≡ Got q v → Follows s at (Got (q + v) 0)
+          pub follows_is : t ≡ name_read s at → t ≡ Ok (m, u) → z ≡ seen itself (number 4) s (m + 20) → z ≡ Ok (q, v) → Follows s at (Ok (q + v, 0))
           unfolding Follows Where
           follows_is f h o k p i x b =
               let e = name_got f h in
@@ -202,11 +205,11 @@ pub ruleset following = (follows_unnamed, follows_short, follows_unsized, follow
 
 -- r is what was told of its end
 module _ (s : List ℕ) (at : ℕ) {r : Read} (f : Follows s at r) (p : Product) (i : ℕ) where
-  pub follows_got : {v q : ℕ} → r ≡ Got q v → Where (rule p i) s at (λ x. at + rule_bytes p i x) q
+  pub follows_got : {v q : ℕ} → r ≡ Ok (q, v) → Where (rule p i) s at (λ x. at + rule_bytes p i x) q
   unfolding Follows Where
-  follows_got {v} {q} h x b = let g : Got q v ≡ Got (at + rule_bytes p i x) 0 = sym h ∙ f p i x b in cc
+  follows_got h x b = (ok_parts (sym h ∙ f p i x b)).0
 
-  pub follows_never : {B : Type 0} {c : Fault} {q : ℕ} → r ≡ No q c → (x : Rule) → Held (rule p i) s at x → B
+  pub follows_never : {B : Type 0} {why : Refusal} → r ≡ Err why → (x : Rule) → Held (rule p i) s at x → B
   unfolding Follows Where
   follows_never h x b = unlike (f p i x b) h
 
@@ -217,25 +220,13 @@ unfoldable pub Reached : List ℕ → ℕ → ℕ → ℕ → Read → Type 0
 Reached s base k i r = (p : Product) → Skipped (rule p) s base k i r
 
 module _ (s : List ℕ) (base k : ℕ) where
-  pub reached_start : Reached s base k 0 (Got base 0)
-  unfolding Reached
-  reached_start p = skip_start (rule p) s base k
-
-  module _ (i at : ℕ) where
-    pub reached_go : {r : Read} {v q : ℕ} → Reached s base k i (Got at 0) → i < k → Follows s at r → r ≡ Got q v → Reached s base k (i + 1) (Got q 0)
-    unfolding Reached
-    reached_go w l f h p = skip_step (rule p) s base k i at (w p) _ l (follows_got s at f p i h)
-
-    pub reached_stop : {r : Read} {c : Fault} {q : ℕ} → Reached s base k i (Got at 0) → i < k → Follows s at r → r ≡ No q c → Reached s base k k r
-    unfolding Reached Skipped
-    reached_stop w l f h p xs t row m = let n = skip_nth (rule p) s base k i at (w p) xs t row m l in follows_never s at f p i h n.x (n.tail, n.stands)
-
-    pub reached_end : Reached s base k i (Got at 0) → i ≤ k → k ≤ i → Reached s base k k (Got at 0)
-    unfolding Reached
-    reached_end w l m p = skip_end (rule p) s base k i at (w p) l m
+  -- each reading tells where the rule ends from which it starts
+  pub reached_by : (P : ℕ → ℕ → Read → Type 0) → ((at i : ℕ) (q : Read) → P at i q → Follows s at q) → (r : Read) → Chain P base 0 k r → Reached s base k k r
+  unfolding Reached Follows Where
+  reached_by P tells r w p = chain_ends P (rule p) s (λ at i q h x b. (0, tells at i q h p i x b)) base k r w
 
   -- of a sound deck
-  pub reached_is : (i : ℕ) {r : Read} → Reached s base k i r → (p : Product) (v : ℕ) (rs : List Rule) → Sound p v s rs → base ≡ base_of v (length rs) → k ≤ length rs → r ≡ Got (start_of v rs i) 0
+  pub reached_is : (i : ℕ) {r : Read} → Reached s base k i r → (p : Product) (v : ℕ) (rs : List Rule) → Sound p v s rs → base ≡ base_of v (length rs) → k ≤ length rs → r ≡ Ok (start_of v rs i, 0)
   unfolding Reached Skipped
   reached_is i w p v rs o e l = w p rs [] (rw e (sound_row p v s rs o)) l ∙ got_at (ap (λ (b : ℕ). start_in (rule p) b rs i) e ∙ start_as v rs i p)
 

@@ -1,8 +1,8 @@
 -- A rule switched on or off: its Enabled is written over.
-use Rattle.std.specs.Prelude.{ℕ, ◌+◌, ◌≤◌, ◌<◌, ◌≡◌, Bool, List, ◌++◌, length, take}
+use Rattle.format.specs.declared.Refusal.TheVariants.{At}
+use Rattle.std.specs.Prelude.{ℕ, ◌+◌, ◌≤◌, ◌<◌, ◌≡◌, Bool, List, ◌++◌, length, take, Ok, Err}
 use Rattle.std.proofs.Common.{arith, sym, ap, ◌∙◌, append_assoc, length-append, length-take-le}
 use Rattle.format.specs.declared.Fault.TheVariants as Fault
-use Rattle.format.specs.declared.Outcome.TheVariants as Outcome
 use Rattle.format.specs.ReadWrite.{spelt, bit}
 use Rattle.format.specs.Laws.ReadWrite.{length_spelt, length_before}
 use Rattle.text.specs.Text.{string}
@@ -46,15 +46,15 @@ as_long : (k : ℕ) (on : Bool) (r : Rule) → length ((rule Studio k).write (sw
 as_long k on r = omega (arith, rule_long Studio k (switched on r), rule_long Studio k r)
 
 module _ (edition k : ℕ) (f : Site) (on : Bool) (d : List ℕ) where
-  pub switch_absent : f.rules ≤ k → Makes edition (λ rs. k) f (switch k on) d (Outcome.No Fault.Absent 0) d
+  pub switch_absent : f.rules ≤ k → Makes edition (λ rs. k) f (switch k on) d (Err (At Fault.Absent 0)) d
   unfolding Makes edited
   switch_absent l p v rs x o = made_no v f.bytes d (no_rule rs k _ (omega (arith, o.many)))
 
-  pub switch_done : (e : ℕ) {y : List ℕ} → k < f.rules → e ≡ name_end d f.start → y ≡ put_in d e (spelt 4 (bit on)) → Makes edition (λ rs. k) f (switch k on) d (Outcome.Done f.bytes) y
+  pub switch_done : (e : ℕ) {y : List ℕ} → k < f.rules → e ≡ name_end d f.start → y ≡ put_in d e (spelt 4 (bit on)) → Makes edition (λ rs. k) f (switch k on) d (Ok f.bytes) y
   unfolding Makes edited
   switch_done e {y} l g z p v rs x o = go (here p v (take f.bytes d) rs k o.sound (omega (arith, o.many)))
     where
-      go : Here p v (take f.bytes d) rs k → Does v f.bytes (edited p (switch k on) rs) d (Outcome.Done f.bytes) y
+      go : Here p v (take f.bytes d) rs k → Does v f.bytes (edited p (switch k on) rs) d (Ok f.bytes) y
       go h =
           let e' : e ≡ enabled_at (start_of v rs k) h.r = rw o.starts at g ∙ name_ends f.bytes d h in
           let b = sits_within f d o in

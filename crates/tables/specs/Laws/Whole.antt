@@ -1,25 +1,25 @@
 -- The whole read: what the first pass tells of the second, and that the promise leaves one outcome.
-use Rattle.std.specs.Prelude.{ℕ, ◌+◌, ◌*◌, ◌/◌, ◌<◌, ◌≤◌, Bool, List, []}
+use Rattle.std.specs.Prelude.{ℕ, ◌+◌, ◌*◌, ◌≤◌, Bool, List, [], Ok, Err, Some, None}
 use Rattle.std.proofs.Common.{arith, sym, ◌∙◌, subst}
 use Rattle.std.proofs.Math.Path.{◌≡◌, refl, ap}
 use Rattle.std.proofs.Math.Bool.{true, false}
 use Rattle.std.proofs.Math.ListN.{length}
 use Rattle.std.proofs.Math.Dec.{leb}
-use borrow.Author.Tests.{le-leb, lt-leb, leb-true}
+use borrow.Author.Tests.{leb-true}
 use Rattle.format.specs.declared.Fault.{Fault}
-use Rattle.format.specs.declared.Outcome.{Outcome}
-use Rattle.format.specs.declared.Outcome.TheVariants.{Done, No, Given}
-use Rattle.format.specs.declared.Read.{Read}
+use Rattle.kind.specs.Answers.{Edition}
+use Rattle.format.specs.Answers.{Outcome, Read}
+use Rattle.scan.specs.Answers.{Scan}
+use Rattle.format.specs.declared.Refusal.{Refusal}
+use Rattle.format.specs.declared.Refusal.TheVariants.{At, Given}
 use Rattle.format.specs.Format.{Answer, got, refused, Bytes, pick}
 use Rattle.format.specs.ReadWrite.{each_write}
 use Rattle.format.specs.Row.{total}
 use Rattle.format.specs.Laws.Seen.{unlike}
 use Rattle.kind.specs.declared.Product.{Product}
-use Rattle.kind.specs.declared.Edition.{Edition}
 use Rattle.kind.specs.Kinds.{edition_of}
 use Rattle.rule.specs.Rule.{Rule, rule, elements_in}
-use Rattle.scan.specs.declared.Scan.{Scan}
-use Rattle.scan.specs.Scan.{scan_says}
+use Rattle.scan.specs.Laws.Scan.{scan_parts}
 use Rattle.deck.specs.Deck.{Deck, base_of, read_as, read_by, read_deck, scanned}
 use Rattle.deck.specs.Laws.Deck.{read_writes_back, deck_small}
 use Rattle.deck.specs.Laws.Written.{deck_row, written_as, written_long}
@@ -46,24 +46,24 @@ pub read_one : (d : Edition) (s t e : List ℕ) (t₁ e₁ t₂ e₂ : List ℕ)
 read_one d s t e t₁ e₁ t₂ e₂ r₁ r₂ f g = (f.0 ∙ sym g.0, (f.1.0 ∙ sym g.1.0, f.1.1 ∙ sym g.1.1))
 
 module _ (edition : ℕ) (s : List ℕ) {d : Edition} (f : d ≡ edition_of edition) where
-  pub read_none : (t e : List ℕ) → d ≡ Edition.Unknown → Promise (edition_of edition) s t t e e (No Fault.Edition 0)
+  pub read_none : (t e : List ℕ) → d ≡ None → Promise (edition_of edition) s t t e e (Err (At Fault.Edition 0))
   read_none t e h = rw (← f, h) (refl, (refl, refl))
 
   -- c is what the first pass told
-  module _ {p : Product} (h : d ≡ Edition.Of p) {c : Scan} (g : c ≡ scanned (read_deck edition s)) where
+  module _ {p : Product} (h : d ≡ Some p) {c : Scan} (g : c ≡ scanned (read_deck edition s)) where
     scan_as : c ≡ scanned (read_as p s)
     unfolding read_deck read_by
     scan_as = g ∙ ap (λ (w : Edition). scanned (read_by w s)) (sym f ∙ h)
 
     -- n rules, which start at b, and m elements
-    found : {v b n m : ℕ} → c ≡ Scan.Is v b n m → Tells p s b n m
+    found : {v b n m : ℕ} → c ≡ Ok (v, b, n, m) → Tells p s b n m
     found {v} {b} {n} {m} i = go (read_as p s) refl (sym i ∙ scan_as)
       where
-        go : (a : Answer Deck) → read_as p s ≡ a → Scan.Is v b n m ≡ scanned a → Tells p s b n m
-        go (got k o) w z = record { deck = k; ends = o; is = w; base = (cc); rules = (cc); elements = (cc) }
+        go : (a : Answer Deck) → read_as p s ≡ a → ◌≡◌ {A = Scan} (Ok (v, b, n, m)) (scanned a) → Tells p s b n m
+        go (got k o) w z = let i = scan_parts z in record { deck = k; ends = o; is = w; base = i.base; rules = i.rules; elements = i.elements }
         go (refused k q) w z = absurd (let x : ◌≡◌ {A = ℕ} 0 1 = cc in omega arith)
 
-    read_small : {v b n m : ℕ} → c ≡ Scan.Is v b n m → Bytes s → (length s ≤ 60000) × ((b ≤ length s) × (n ≤ 256))
+    read_small : {v b n m : ℕ} → c ≡ Ok (v, b, n, m) → Bytes s → (length s ≤ 60000) × ((b ≤ length s) × (n ≤ 256))
     read_small i bs =
         let a = found i in
         let k = a.deck in
@@ -78,17 +78,14 @@ module _ (edition : ℕ) (s : List ℕ) {d : Edition} (f : d ≡ edition_of edit
       answered_as w o = rw (← f, h, w) o
 
       -- it was handed on
-      pub read_refused : {k : Fault} {q : ℕ} {r : Outcome} → c ≡ Scan.No k q → r ≡ scan_says c → Promise (edition_of edition) s t t e e r
-      read_refused {k} {q} i y = rw (y ∙ ap scan_says i) (go (read_as p s) refl (sym i ∙ scan_as))
+      pub read_refused : {why : Refusal} {r : Outcome} → c ≡ Err why → r ≡ Err why → Promise (edition_of edition) s t t e e r
+      read_refused {why} i y = rw y (go (read_as p s) refl (sym i ∙ scan_as))
         where
-          go : (a : Answer Deck) → read_as p s ≡ a → Scan.No k q ≡ scanned a → Promise (edition_of edition) s t t e e (No k q)
+          go : (a : Answer Deck) → read_as p s ≡ a → Err why ≡ scanned a → Promise (edition_of edition) s t t e e (Err why)
           go (got y m) w z = absurd (let x : ◌≡◌ {A = ℕ} 0 1 = cc in omega arith)
-          go (refused k₁ q₁) w z =
-              let ek : k ≡ k₁ = cc in
-              let eq : q ≡ q₁ = cc in
-              answered_as w (rw (ek, eq) (refl, (refl, refl)))
+          go (refused k q) w z = let same : why ≡ At k q = cc in answered_as w (rw same (refl, (refl, refl)))
 
-      module _ {v b n m : ℕ} (i : c ≡ Scan.Is v b n m) where
+      module _ {v b n m : ℕ} (i : c ≡ Ok (v, b, n, m)) where
         a : Tells p s b n m
         a = found i
 
@@ -98,21 +95,20 @@ module _ (edition : ℕ) (s : List ℕ) {d : Edition} (f : d ≡ edition_of edit
           answer = rw (← a.rules, ← a.elements) z
 
           -- where there is none
-          pub read_full : ((v : ℕ) → o ≡ Done v → ⊥) → Promise (edition_of edition) s t t e e o
-          read_full w = answered_as a.is (rw (← answer) (go o w))
+          pub read_full : {why : Refusal} {r : Outcome} → o ≡ Err why → r ≡ Err why → Promise (edition_of edition) s t t e e r
+          read_full {why} w y = answered_as a.is (rw (← answer, w, y) (go why))
             where
-              go : (x : Outcome) → ((v : ℕ) → x ≡ Done v → ⊥) → (x ≡ x) × ((t ≡ rules_left p x (got a.deck a.ends) t) × (e ≡ elements_left p x (got a.deck a.ends) e))
-              go (Done v) none = absurd (none v refl)
-              go (No k q) none = (refl, (refl, refl))
-              go (Given k q) none = (refl, (refl, refl))
+              go : (x : Refusal) → ◌≡◌ {A = Outcome} (Err x) (Err x) × ((t ≡ rules_left p (Err x) (got a.deck a.ends) t) × (e ≡ elements_left p (Err x) (got a.deck a.ends) e))
+              go (At k q) = (refl, (refl, refl))
+              go (Given k q) = (refl, (refl, refl))
 
           -- where there is some
-          module _ {u : ℕ} (done : o ≡ Done u) where
+          module _ {u : ℕ} (done : o ≡ Ok u) where
             fits : (rule_width * n ≤ length t) × (element_width * m ≤ length e)
             unfolding in_tables pick
             fits = go (leb (rule_width * n) (length t)) (leb (element_width * m) (length e)) refl refl (sym done ∙ z)
               where
-                go : (x y : Bool) → leb (rule_width * n) (length t) ≡ x → leb (element_width * m) (length e) ≡ y → Done u ≡ pick x (pick y (Done n) (No Fault.Table 1)) (No Fault.Table 0) → (rule_width * n ≤ length t) × (element_width * m ≤ length e)
+                go : (x y : Bool) → leb (rule_width * n) (length t) ≡ x → leb (element_width * m) (length e) ≡ y → Ok u ≡ pick x (pick y (Ok n) (Err (At Fault.Table 1))) (Err (At Fault.Table 0)) → (rule_width * n ≤ length t) × (element_width * m ≤ length e)
                 go true true f g w = (leb-true _ _ f, leb-true _ _ g)
                 go true false f g w = absurd (let x : ◌≡◌ {A = ℕ} 0 1 = cc in omega arith)
                 go false y f g w = absurd (let x : ◌≡◌ {A = ℕ} 0 1 = cc in omega arith)
@@ -125,7 +121,7 @@ module _ (edition : ℕ) (s : List ℕ) {d : Edition} (f : d ≡ edition_of edit
               abbrev base : ℕ
               base = base_of a.deck.version (length rs)
 
-              all : (r ≡ Read.Got (base + length (each_write (rule p) 0 rs)) n) × ((t₁ ≡ put t 0 (rule_rows p 0 base rs)) × (e₁ ≡ put e 0 (all_element_rows p 0 base rs)))
+              all : (r ≡ Ok (base + length (each_write (rule p) 0 rs), n)) × ((t₁ ≡ put t 0 (rule_rows p 0 base rs)) × (e₁ ≡ put e 0 (all_element_rows p 0 base rs)))
               all =
                   let w = read_writes_back p s a.deck a.ends bs a.is in
                   let few = read_small i bs in
@@ -133,22 +129,8 @@ module _ (edition : ℕ) (s : List ℕ) {d : Edition} (f : d ≡ edition_of edit
                   y few.0 (omega (arith, few.1.0, a.base)) few.1.1 rs [] (deck_row p s a.deck w.fit w.is) (sym a.rules) (omega (arith, fits.0, rule_rows_long p base rs, a.rules)) (omega (arith, fits.1, all_rows_long p base rs, a.elements))
 
               -- it refuses nothing
-              pub read_unlike : {k : Fault} {q : ℕ} {y : Outcome} → r ≡ Read.No q k → Promise (edition_of edition) s t t₁ e e₁ y
+              pub read_unlike : {why : Refusal} {y : Outcome} → r ≡ Err why → Promise (edition_of edition) s t t₁ e e₁ y
               read_unlike w = unlike all.0 w
 
-              pub read_done : Promise (edition_of edition) s t t₁ e e₁ o
-              read_done = answered_as a.is (rw (← answer) (refl, (rw done all.1.0, rw done all.1.1)))
-
--- as the code judges the room
-module _ (n m rules elements : ℕ) where
-  pub room_rules : rules / rule_width < n → No Fault.Table 0 ≡ in_tables n m rules elements
-  unfolding in_tables pick
-  room_rules l = rw (lt-leb (rule_width * n) rules (omega arith))
-
-  pub room_elements : n ≤ rules / rule_width → elements / element_width < m → No Fault.Table 1 ≡ in_tables n m rules elements
-  unfolding in_tables pick
-  room_elements l k = rw (le-leb (rule_width * n) rules (omega arith), lt-leb (element_width * m) elements (omega arith))
-
-  pub room_both : n ≤ rules / rule_width → m ≤ elements / element_width → Done n ≡ in_tables n m rules elements
-  unfolding in_tables pick
-  room_both l k = rw (le-leb (rule_width * n) rules (omega arith), le-leb (element_width * m) elements (omega arith))
+              pub read_done : Promise (edition_of edition) s t t₁ e e₁ (Ok u)
+              read_done = answered_as a.is (rw (← answer, done) (refl, all.1))

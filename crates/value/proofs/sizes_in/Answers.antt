@@ -1,17 +1,8 @@
-use Rattle.value.specs.Laws.Places.{holds_none, sizes_numbers, number_fits, sizes_are}
+use Rattle.value.specs.Laws.Places.{holds_none, sizes_numbers}
 use Rattle.value.proofs.sizes_in.Goals as goal
 
-pub returns-in_default : goal.returns-in_default
-returns-in_default c = holds_none _ _ _ _ _ _ _ (λ d x. (_, (sizes_numbers _ d x).0)) c.u32_at-a.ensures c.in_default.is
+pub returns-in_err-minimum : goal.returns-in_err-minimum
+returns-in_err-minimum c = holds_none _ _ _ _ _ _ _ (λ d x. (_, (sizes_numbers _ d x).0)) c.u32_at.ensures c.in_err-minimum.was
 
-pub returns-in_default-b : goal.returns-in_default-b
-returns-in_default-b c = holds_none _ _ _ _ _ _ _ (λ d x. (_, (sizes_numbers _ d x).1)) c.u32_at-b.ensures c.in_default-b.is
-
-pub overflow_cast-result : goal.overflow_cast-result
-overflow_cast-result c = record { fits = number_fits _ _ c.shared_slice_known-1.given 4 c.u32_at-a.ensures c.in-Got.is }
-
-pub overflow_cast-result-2 : goal.overflow_cast-result-2
-overflow_cast-result-2 c = record { fits = number_fits _ _ c.shared_slice_known-1.given 4 c.u32_at-b.ensures c.in-Got-b.is }
-
-pub returns : goal.returns
-returns c = sizes_are _ c.u32_at-a.ensures c.in-Got.is c.u32_at-b.ensures c.in-Got-b.is
+pub returns-in_err-maximum : goal.returns-in_err-maximum
+returns-in_err-maximum c = holds_none _ _ _ _ _ _ _ (λ d x. (_, (sizes_numbers _ d x).1)) c.u32_at-2.ensures c.in_err-maximum.was

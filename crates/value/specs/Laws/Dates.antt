@@ -1,5 +1,5 @@
 -- The dates of a value are dates: those that were read are, and come back bit for bit.
-use Rattle.std.specs.Prelude.{ℕ, ◌^◌, ◌<◌, ◌≡◌, refl, Bool, true, false, List, eqb, length}
+use Rattle.std.specs.Prelude.{ℕ, ◌^◌, ◌<◌, ◌≡◌, refl, Bool, true, false, List, eqb, length, Ok, Err, Some, None}
 use Rattle.std.proofs.Common.{arith, ap, ◌∙◌}
 use Rattle.std.specs.Float.{binary64}
 use Rattle.std.specs.Float.Ieee.{of_bits, to_bits}
@@ -10,14 +10,14 @@ use Rattle.format.specs.Laws.Combinators.{then_fit}
 use Rattle.date.specs.Double.{accepted}
 use Rattle.date.specs.Date.{date}
 use Rattle.date.proofs.Floats.{date_no_nan, bits_back}
-use Rattle.kind.specs.declared.Edition.{Edition}
+use Rattle.kind.specs.Answers.{Edition, Row}
+use Rattle.value.specs.Answers.{Valued}
+use Rattle.format.specs.declared.Refusal.TheVariants.{At, Given}
 use Rattle.kind.specs.declared.Kind.{Kind}
-use Rattle.kind.specs.declared.Row.{Row}
 use Rattle.kind.specs.Kinds.{edition_of, row_of}
 use Rattle.element.specs.Data.{Data, Limit, span_of, limit, date_data, data_of}
 use Rattle.value.specs.declared.Span.{Span}
 use Rattle.value.specs.declared.Value.{Value}
-use Rattle.value.specs.declared.Valued.{Valued}
 use Rattle.value.specs.Value.{value_in, from_data, from_kind, from_row, from_edition, value_of}
 
 limit_fit : (l : Limit) → limit.Fit l → (l.at < 256 ^ 8) × (accepted l.at ≡ true)
@@ -36,9 +36,8 @@ limit_back l f =
 -- ---- what holds of every value that data of a kind have holds of those that lone data have
 
 abbrev pub Has : (Value → Type 0) → Valued → Type 0
-Has P (Valued.Is v) = P v
-Has P (Valued.No c q) = Unit {0}
-Has P (Valued.Given c q) = Unit {0}
+Has P (Ok v) = P v
+Has P (Err why) = Unit {0}
 
 pub value_has : (P : Value → Type 0) (id : ℕ) → ((k : Kind) (d : Data) → (data_of k).Fit d → P (value_in k id d)) → (edition : ℕ) (s : List ℕ) → Bytes s → Has P (value_of edition id s)
 unfolding value_of from_kind whole pick
@@ -53,14 +52,15 @@ value_has P id f edition s b = by (edition_of edition)
     read k (refused c p) r = tt
 
     row : (r : Row) → Has P (from_row r id s)
-    row (Row.Is k) = read k ((data_of k).read s) refl
-    row (Row.No c p) = tt
+    row (Ok k) = read k ((data_of k).read s) refl
+    row (Err (At c p)) = tt
+    row (Err (Given c p)) = tt
 
     by : (o : Edition) → Has P (from_edition o id s)
-    by (Edition.Of p) = row (row_of p id)
-    by Edition.Unknown = tt
+    by (Some p) = row (row_of p id)
+    by None = tt
 
-pub has_is : (P : Value → Type 0) {x y : Valued} {v : Value} → x ≡ Valued.Is v → x ≡ y → Has P y → P v
+pub has_is : (P : Value → Type 0) {x y : Valued} {v : Value} → x ≡ Ok v → x ≡ y → Has P y → P v
 has_is P e f d = rw (← f, e) at d
 
 -- ---- so its dates are dates

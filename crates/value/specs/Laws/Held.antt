@@ -1,10 +1,9 @@
 -- What stands at a place of a slice: a value of a format, and of the formats that it is made of.
-use Rattle.std.specs.Prelude.{ℕ, ◌+◌, ◌≡◌, length, drop}
+use Rattle.std.specs.Prelude.{ℕ, ◌+◌, ◌≡◌, length, drop, Ok}
 use Rattle.std.proofs.Common.{◌∙◌}
 use mathlib.Core.List.{List, ◌++◌, append_assoc}
 use Rattle.std.proofs.Math.Seq.{drop-append_seam, drop-drop}
-use Rattle.format.specs.declared.Read.{Read}
-use Rattle.format.specs.declared.Read.TheVariants.{Got}
+use Rattle.format.specs.Answers.{Read}
 use Rattle.format.specs.Format.{got, Bytes, Format}
 use Rattle.format.specs.Laws.Format.{bytes_drop}
 use Rattle.format.specs.ReadWrite.{pair_write}
@@ -49,5 +48,5 @@ unfolding ◌then◌ seq
 held_then a b s at m h e = held_second a (λ u. b) s at m (held_via (pair a (λ u. b)) (λ p. p.1) (λ y. (tt, y)) _ s at h) e
 
 -- a number that was read fits
-pub seen_fit : (a : Format ℕ) (s : List ℕ) (at : ℕ) {r : Read} {v m : ℕ} → Bytes s → r ≡ seen itself a s at → r ≡ Got m v → a.Fit v
+pub seen_fit : (a : Format ℕ) (s : List ℕ) (at : ℕ) {r : Read} {v m : ℕ} → Bytes s → r ≡ seen itself a s at → r ≡ Ok (m, v) → a.Fit v
 seen_fit a s at bs e h = let o = seen_fits itself a s at bs e h in rw o.1.1 o.1.0

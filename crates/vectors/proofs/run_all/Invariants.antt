@@ -1,8 +1,8 @@
-use Rattle.std.proofs.Common.{◌≡◌, ◌-◌, ◌≤◌, length}
+use Rattle.std.proofs.Common.{◌+◌, ◌≤◌, length}
 use Rattle.vectors.proofs.run_all.Given as goal
 
-abbrev pub invariant-loop-at : goal.invariant-loop-at
-invariant-loop-at g l = (length l.base ≡ 65536) × ((l.known ≤ 65536) × ((l.at ≤ length l.f) × ((l.count ≤ l.at) × (l.agreed ≤ l.count))))
+abbrev pub invariant-loop-file : goal.invariant-loop-file
+invariant-loop-file g l = (l.count + length l.file.rest.now ≤ length l.bytes) × (l.agreed ≤ l.count)
 
-abbrev pub decreases-loop-at : goal.decreases-loop-at
-decreases-loop-at g l = length l.f - l.at
+abbrev pub decreases-loop-file : goal.decreases-loop-file
+decreases-loop-file g l = length l.file.rest.now

@@ -7,10 +7,10 @@ pub returns-in_default : goal.returns-in_default
 returns-in_default c = part_none _ _ (within_none _ c.in_default.is) c.empty.ensures.0 c.empty.ensures.1
 
 pub returns-then-s-a : goal.returns-then-s-a
-returns-then-s-a c = part_none _ _ (within_past (length c.args.s.now) c.in-At.is (omega arith)) c.empty-then-s-a.ensures.0 c.empty-then-s-a.ensures.1
+returns-then-s-a c = part_none _ _ (within_past (length c.args.s.now) c.in-Ok.is (omega arith)) c.empty-then-s-a.ensures.0 c.empty-then-s-a.ensures.1
 
 pub returns-then-s-a-2 : goal.returns-then-s-a-2
-returns-then-s-a-2 c = part_none _ _ (within_past (length c.args.s.now) c.in-At.is (omega arith)) c.empty-then-s-a-2.ensures.0 c.empty-then-s-a-2.ensures.1
+returns-then-s-a-2 c = part_none _ _ (within_past (length c.args.s.now) c.in-Ok.is (omega arith)) c.empty-then-s-a-2.ensures.0 c.empty-then-s-a-2.ensures.1
 
 pub returns : goal.returns
-returns c = let e = within_at (length c.args.s.now) c.in-At.is (omega arith) in (shown_at _ e, from_at _ _ e)
+returns c = let e = within_at (length c.args.s.now) c.in-Ok.is (omega arith) in (shown_at _ e, from_at _ _ e)

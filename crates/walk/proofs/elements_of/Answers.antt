@@ -8,7 +8,7 @@ pub returns-in_default : goal.returns-in_default
 returns-in_default c = search (rules, elements_unnamed)
 
 pub returns-then-left-lt24 : goal.returns-then-left-lt24
-returns-then-left-lt24 c = elements_short _ _ _ _ (name_got _ _ c.name_end-t.ensures c.in-Got.is) (omega arith)
+returns-then-left-lt24 c = elements_short _ _ _ _ (name_got _ _ c.name_end-t.ensures c.in-Ok.is) (omega arith)
 
 pub returns : goal.returns
-returns c = elements_go _ _ _ _ (name_got _ _ c.name_end-t.ensures c.in-Got.is) c.counted_at.ensures
+returns c = elements_go _ _ _ _ (name_got _ _ c.name_end-t.ensures c.in-Ok.is) c.counted_at.ensures

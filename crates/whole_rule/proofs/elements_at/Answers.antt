@@ -1,14 +1,7 @@
-use Rattle.format.specs.Laws.Rows.{running}
+use Rattle.std.proofs.Common.{rules}
+use Rattle.each.specs.Laws.Row.{chain_seen}
+use Rattle.rule.specs.Rule.{placed}
 use Rattle.whole_rule.proofs.elements_at.Goals as goal
 
-pub loop-j-init : goal.loop-j-init
-loop-j-init c = search running
-
-pub returns-in_default : goal.returns-in_default
-returns-in_default c = search running
-
-pub loop-j-preserved : goal.loop-j-preserved
-loop-j-preserved c = search running
-
 pub returns : goal.returns
-returns c = search running
+returns c = chain_seen _ (placed c.args.product) c.args.s.now (λ e. e.0) (λ p j r h. search rules) _ _ _ c.each_at.ensures

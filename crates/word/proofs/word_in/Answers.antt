@@ -10,20 +10,20 @@ use Rattle.word.proofs.word_in.Goals as goal
 pub returns-then-f-eq0 : goal.returns-then-f-eq0
 returns-then-f-eq0 c = word_none _ _ _ _ c.if-f-eq0.true
 
-pub returns-in_default : goal.returns-in_default
-returns-in_default c = last_unnamed _ _ _ _ _ _ c.if-f-eq0.false c.name_end-r.ensures c.in_default.is
+pub returns-in_err-e : goal.returns-in_err-e
+returns-in_err-e c = last_unnamed _ _ _ _ _ _ c.if-f-eq0.false c.name_end.ensures c.in_err-e.was
 
-pub returns-in_default-l : goal.returns-in_default-l
-returns-in_default-l c = word_no_list _ _ _ _ c.if-f-eq0.false (name_got _ _ c.name_end-r.ensures c.in-Got.is) c.list_at-l.ensures c.in_default-l.is c.end_says-in_default-l.ensures
+pub returns-in_err-t : goal.returns-in_err-t
+returns-in_err-t c = word_no_list _ _ _ _ c.if-f-eq0.false (name_got _ _ c.name_end.ensures c.in_ok-e.was) c.list_at.ensures c.in_err-t.was (search rules)
 
 pub returns-then-count-ge64 : goal.returns-then-count-ge64
-returns-then-count-ge64 c = word_full _ _ _ _ c.if-f-eq0.false (name_got _ _ c.name_end-r.ensures c.in-Got.is) c.list_at-l.ensures c.in-Got-l.is c.if-count-ge64.true
+returns-then-count-ge64 c = word_full _ _ _ _ c.if-f-eq0.false (name_got _ _ c.name_end.ensures c.in_ok-e.was) c.list_at.ensures c.in_ok-t.was c.if-count-ge64.true
 
 pub returns-then-not-text : goal.returns-then-not-text
-returns-then-not-text c = word_text _ _ _ _ c.if-f-eq0.false (name_got _ _ c.name_end-r.ensures c.in-Got.is) c.list_at-l.ensures c.in-Got-l.is (omega arith) (sym c.is_text-text.ensures ∙ c.if-not-text.true)
+returns-then-not-text c = word_text _ _ _ _ c.if-f-eq0.false (name_got _ _ c.name_end.ensures c.in_ok-e.was) c.list_at.ensures c.in_ok-t.was (omega arith) (sym c.is_text-text.ensures ∙ c.if-not-text.true)
 
 pub lengthen-requires : goal.lengthen-requires
-lengthen-requires c = let w = name_within c.args.buf.now c.args.f.start (omega (arith, c.requires.order, c.requires.inside, c.requires.room)) in (omega (arith, w, name_got _ _ c.name_end-r.ensures c.in-Got.is), c.requires.short, search rules, sym c.is_text-text.ensures ∙ c.if-not-text.false)
+lengthen-requires c = let w = name_within c.args.buf.now c.args.f.start (omega (arith, c.requires.order, c.requires.inside, c.requires.room)) in (omega (arith, w, name_got _ _ c.name_end.ensures c.in_ok-e.was), c.requires.short, search rules, sym c.is_text-text.ensures ∙ c.if-not-text.false)
 
 pub returns : goal.returns
-returns c = word_done _ _ _ _ c.if-f-eq0.false (name_got _ _ c.name_end-r.ensures c.in-Got.is) c.list_at-l.ensures c.in-Got-l.is _ _ (omega arith) (bytes_all c.args.word.now c.shared_slice_known-1.given) (sym c.is_text-text.ensures ∙ c.if-not-text.false) c.lengthen.ensures
+returns c = word_done _ _ _ _ c.if-f-eq0.false (name_got _ _ c.name_end.ensures c.in_ok-e.was) c.list_at.ensures c.in_ok-t.was _ _ (omega arith) (bytes_all c.args.word.now c.shared_slice_known-1.given) (sym c.is_text-text.ensures ∙ c.if-not-text.false) c.lengthen.ensures

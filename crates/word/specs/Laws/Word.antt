@@ -1,13 +1,13 @@
 -- A word added to the last list: its bytes behind the deck; Data Size and the number of words written over.
-use Rattle.std.specs.Prelude.{ℕ, ◌+◌, ◌-◌, ◌≤◌, ◌<◌, ◌≡◌, true, false}
+use Rattle.std.specs.Prelude.{ℕ, ◌+◌, ◌-◌, ◌≤◌, ◌<◌, ◌≡◌, true, false, Ok, Err}
 use Rattle.std.proofs.Common.{arith, ◌∙◌, take-append-drop, length-take-le}
 use Rattle.std.proofs.Math.Path.{refl, sym, ap}
 use mathlib.Core.List.{List, [], ◌∷◌, ◌++◌, append_assoc, append-nil}
 use Rattle.std.proofs.Math.ListN.{length, take, drop, length-append}
 use Rattle.format.specs.declared.Fault.{Fault}
-use Rattle.format.specs.declared.Outcome.{Outcome}
-use Rattle.format.specs.declared.Read.{Read}
-use Rattle.format.specs.Laws.Fault.{end_says}
+use Rattle.format.specs.Answers.{Outcome, Read}
+use Rattle.format.specs.declared.Refusal.{Refusal}
+use Rattle.format.specs.declared.Refusal.TheVariants.{At}
 use Rattle.format.specs.Format.{Bytes}
 use Rattle.format.specs.ReadWrite.{spelt, each_write}
 use Rattle.format.specs.Laws.ReadWrite.{length_spelt, length_before, each_append}
@@ -17,7 +17,6 @@ use Rattle.text.specs.Text.{string, word, Text, unit}
 use Rattle.kind.specs.declared.Product.{Product}
 use Rattle.kind.specs.declared.Product.TheVariants.{Studio}
 use Rattle.kind.specs.declared.Kind.TheVariants as Kind
-use Rattle.kind.specs.declared.Row.TheVariants as Row
 use Rattle.kind.specs.Kinds.{kinds, row_in}
 use Rattle.element.specs.Data.{words}
 use Rattle.element.specs.Element.{Element}
@@ -61,7 +60,7 @@ unfolding word_bytes
 word_put d at s e f h = let l = length_spelt 4 0 in put_both d at (spelt 4 0) (text_bytes s) e f (omega arith) (omega arith)
 
 -- ---- the elements, the last of which is a list
-list_inner : (xs : List Element) (id : ℕ) (ws : List Text) → row_in kinds id ≡ Row.Is Kind.WordList → inner (xs ++ ((id, words ws) ∷ [])) ≡ (inner xs ++ leading (length xs) id) ++ (spelt 4 (length ws) ++ each_write (λ i. word) 0 ws)
+list_inner : (xs : List Element) (id : ℕ) (ws : List Text) → row_in kinds id ≡ Ok Kind.WordList → inner (xs ++ ((id, words ws) ∷ [])) ≡ (inner xs ++ leading (length xs) id) ++ (spelt 4 (length ws) ++ each_write (λ i. word) 0 ws)
 list_inner xs id ws e = inner_more xs (id, words ws) ∙ ap (λ (t : List ℕ). inner xs ++ t) (list_written Studio (length xs) id ws e) ∙ sym (append_assoc (inner xs) (leading (length xs) id) (spelt 4 (length ws) ++ each_write (λ i. word) 0 ws))
 
 words_more : (ws : List Text) (s : List ℕ) → text_bytes s ≡ string.write (text_of s) → each_write (λ i. word) 0 (ws ++ (text_of s ∷ [])) ≡ each_write (λ i. word) 0 ws ++ word_bytes s
@@ -174,14 +173,14 @@ module _ (n m e t c : ℕ) (s d : List ℕ) where
 
   -- size is what a String of the word takes; r is what 18, 19 and 20 were judged as
   module _ {size : ℕ} {r : Outcome} where
-    pub lengthen_out : is_text s ≡ true → size ≡ text_size s → r ≡ room_for m (n + 4 + size) (length d) → ((u : ℕ) → r ≡ Outcome.Done u → ⊥) → Lengthens n m e t c s d r d
+    pub lengthen_out : {x : Outcome} {why : Refusal} → is_text s ≡ true → size ≡ text_size s → r ≡ room_for m (n + 4 + size) (length d) → r ≡ Err why → x ≡ Err why → Lengthens n m e t c s d x d
     unfolding Lengthens
-    lengthen_out it es j i p v rs k h o z w f g b =
+    lengthen_out it es j i er p v rs k h o z w f g b =
         let l = bytes_long h o z w g (some h) (n + 4 + length (text_bytes s) - (e + 24)) (c + 1) in
         let u : n + 4 + size ≡ n + 4 + length (text_bytes s) = ap (λ (k : ℕ). n + 4 + k) (es ∙ text_size_lem s it) in
-        made_out v n d refl j i (f ∙ sym (as_many h _ z)) (u ∙ sym (ap length (longer_written h o z w g (some h) b) ∙ l))
+        made_out v n d refl j i er (f ∙ sym (as_many h _ z)) (u ∙ sym (ap length (longer_written h o z w g (some h) b) ∙ l))
 
-    pub lengthen_done : {y₁ y₂ y₃ y₄ : List ℕ} {u : ℕ} → is_text s ≡ true → size ≡ text_size s → r ≡ room_for m (n + 4 + size) (length d) → r ≡ Outcome.Done u → y₁ ≡ put_in d n (spelt 4 0) → y₂ ≡ put_in y₁ (n + 4) (text_bytes s) → y₃ ≡ put_in y₂ (e + 20) (spelt 4 (n + 4 + size - (e + 24))) → y₄ ≡ put_in y₃ t (spelt 4 (c + 1))
+    pub lengthen_done : {y₁ y₂ y₃ y₄ : List ℕ} {u : ℕ} → is_text s ≡ true → size ≡ text_size s → r ≡ room_for m (n + 4 + size) (length d) → r ≡ Ok u → y₁ ≡ put_in d n (spelt 4 0) → y₂ ≡ put_in y₁ (n + 4) (text_bytes s) → y₃ ≡ put_in y₂ (e + 20) (spelt 4 (n + 4 + size - (e + 24))) → y₄ ≡ put_in y₃ t (spelt 4 (c + 1))
         → Lengthens n m e t c s d r y₄
     unfolding Lengthens
     lengthen_done {y₃ = y₃} it es j i e₁ e₂ e₃ e₄ p v rs k h o z w f g b =
@@ -203,7 +202,7 @@ with_word s rs k r = at_list (drop (length r.elements - 1) r.elements) λ id ws.
     (if_text s (become (take k rs ++ (holding (take (length r.elements - 1) r.elements ++ ((id, words (ws ++ (text_of s ∷ []))) ∷ [])) r ∷ []))))
 
 module _ (p : Product) (f : Site) (s d : List ℕ) where
-  pub word_none : f.rules ≡ 0 → MakesAs p last_of f (add_word s) d (Outcome.No Fault.Last 0) d
+  pub word_none : f.rules ≡ 0 → MakesAs p last_of f (add_word s) d (Err (At Fault.Last 0)) d
   unfolding edited
   word_none e = on_none p f d (add_word s) (with_word s) (λ rs. refl) e
 
@@ -213,19 +212,19 @@ module _ (p : Product) (f : Site) (s d : List ℕ) where
     unfolding Where
     last_told h i = (rw i at li) h.r (here_in f.bytes d h)
 
-    pub word_no_list : {r : Outcome} {c : Fault} {q : ℕ} → y ≡ Read.No q c → r ≡ end_says y → MakesAs p last_of f (add_word s) d r d
+    pub word_no_list : {r : Outcome} {why : Refusal} → y ≡ Err why → r ≡ Err why → MakesAs p last_of f (add_word s) d r d
     unfolding edited
-    word_no_list k er = on_last p f d (add_word s) (with_word s) (λ rs. refl) _ _ l g (λ v rs h z w e' a'. let x = made_no v f.bytes d (list_none _ _ _ (sym (last_told h a') ∙ k) _) in (er ∙ ap end_says k ∙ x.0, x.1))
+    word_no_list k er = on_last p f d (add_word s) (with_word s) (λ rs. refl) _ _ l g (λ v rs h z w e' a'. let o = list_none _ _ _ (sym (last_told h a') ∙ k) _ in let x = made_no v f.bytes d o.1 in (er ∙ ap Err o.0 ∙ x.0, x.1))
 
-    module _ {c t : ℕ} (k : y ≡ Read.Got t c) where
+    module _ {c t : ℕ} (k : y ≡ Ok (t, c)) where
       is_listed : {v : ℕ} {rs : List Rule} (h : Here p v (take f.bytes d) rs (f.rules - 1)) → e ≡ enabled_at (start_of v rs (f.rules - 1)) h.r → f.start ≡ start_of v rs (f.rules - 1) → EndsInList (f.rules - 1) e h.r.elements c t
       is_listed {v} {rs} h e' a' = ends_in_list p d (start_of v rs (f.rules - 1)) (f.rules - 1) e h.r (here_in f.bytes d h) e' (sym (last_told h a') ∙ k)
 
-      pub word_full : 64 ≤ c → MakesAs p last_of f (add_word s) d (Outcome.No Fault.Full 0) d
+      pub word_full : 64 ≤ c → MakesAs p last_of f (add_word s) d (Err (At Fault.Full 0)) d
       unfolding edited
       word_full u = on_last p f d (add_word s) (with_word s) (λ rs. refl) _ _ l g (λ v rs h z w e' a'. let o = is_listed h e' a' in made_no v f.bytes d (at_words o _ ∙ full _ _ (rw o.many at u)))
 
-      pub word_text : c < 64 → is_text s ≡ false → MakesAs p last_of f (add_word s) d (Outcome.No Fault.Text 0) d
+      pub word_text : c < 64 → is_text s ≡ false → MakesAs p last_of f (add_word s) d (Err (At Fault.Text 0)) d
       unfolding edited
       word_text u b = on_last p f d (add_word s) (with_word s) (λ rs. refl) _ _ l g (λ v rs h z w e' a'. let o = is_listed h e' a' in made_no v f.bytes d (at_words o _ ∙ not_full _ _ (rw o.many at u) ∙ no_text s _ b))
 

@@ -3,14 +3,14 @@ use Rattle.view.specs.Laws.View.{no_inside}
 use borrow.Author.Rules.{rules}
 use Rattle.word_view.proofs.rule_word.Goals as goal
 
-pub returns-in_default : goal.returns-in_default
-returns-in_default c = (search (rules, rule_cut), no_inside _ _ c.no_view.ensures)
+pub returns-in_err-p : goal.returns-in_err-p
+returns-in_err-p c = (search (rules, rule_cut, c.in_err-p.was), no_inside _ _ c.from_residual.ensures.0)
 
 pub returns-then-n-e : goal.returns-then-n-e
-returns-then-n-e c = (search (rules, rule_short), tt)
+returns-then-n-e c = (search (rules, rule_short, c.in_ok-p.was), tt)
 
-pub returns-in_default-r : goal.returns-in_default-r
-returns-in_default-r c = (search (rules, rule_never), no_inside _ _ c.no_view-in_default-r.ensures)
+pub returns-in_err-q : goal.returns-in_err-q
+returns-in_err-q c = (search (rules, rule_never, c.in_ok-p.was, c.in_err-q.was), no_inside _ _ c.from_residual-in_err-q.ensures.0)
 
 pub returns : goal.returns
-returns c = (search (rules, rule_is), c.element_word.ensures.1)
+returns c = (search (rules, rule_is, c.in_ok-p.was, c.in_ok-q.was), c.element_word.ensures.1)
