@@ -1,5 +1,7 @@
 // The calls that a vector can make.
 
+ghost use Rattle.std.specs.Prelude.{◌≤◌};
+
 #[derive(Clone, Copy, PartialEq, Eq)]
 pub enum Call {
     Base,
@@ -26,10 +28,12 @@ pub enum Call {
     ToVersion1,
 }
 
-impl Call {
-    // By its number in vectors/README.md, which `as u8` gives back.
-    pub fn numbered(number: u8) -> Option<Call> {
-        Some(match number {
+// By its number in vectors/README.md, which `as u8` gives back.
+impl TryFrom<u8> for Call {
+    type Error = ();
+
+    fn try_from(number: u8) -> Result<Call, ()> {
+        Ok(match number {
             0 => Call::Base,
             1 => Call::Kind,
             2 => Call::Value,
@@ -52,12 +56,16 @@ impl Call {
             19 => Call::WordPart,
             20 => Call::ToVersion2,
             21 => Call::ToVersion1,
-            _ => return None,
+            _ => return Err(()),
         })
     }
+}
 
+impl Call {
     // How many strings it takes.
-    pub fn strings(self) -> usize {
+    pub fn strings(self) -> usize
+        ensures { result ≤ 3 }
+    {
         match self {
             Call::Kind | Call::Moment => 0,
             Call::Rename

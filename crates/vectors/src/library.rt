@@ -1,6 +1,6 @@
 // A vector's call, made of the library.
 
-ghost use Rattle.std.specs.Prelude.{◌≤◌, IfSome};
+ghost use Rattle.std.specs.Prelude.{◌≡◌, ◌+◌, ◌*◌, ◌≤◌, ◌<◌, IfSome};
 
 use crate::calls::Call;
 use crate::packing::Text;
@@ -24,7 +24,9 @@ pub struct Answer {
 
 impl Answer {
     // As it stands in a vector, in one number.
-    pub fn packed(number: u64) -> Answer {
+    pub fn packed(number: u64) -> Answer
+        ensures { (result.code < 256) × (result.code + 256 * result.place ≡ number) }
+    {
         Answer {
             code: number % 256,
             place: number / 256,

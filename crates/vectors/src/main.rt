@@ -24,7 +24,7 @@ enum Verdict {
 // Runs a vector, from behind its length on, and sets the base for those after it; None where it is malformed.
 fn judge(bytes: &[u8], base: &mut Text) -> Option<Verdict> {
     let mut reader = Reader { rest: bytes };
-    let call = Call::numbered(reader.byte()?)?;
+    let call = Call::try_from(reader.byte()?).ok()?;
     let mut table = [0; 255];
     let numbers = reader.numbers(&mut table)?;
     let count = usize::from(reader.byte()?);

@@ -1,6 +1,6 @@
 // Reading a file of vectors, or one of them, from its start on: None where it has too few bytes for what is read.
 
-ghost use Rattle.std.specs.Prelude.{◌≡◌, ◌+◌, ◌<◌, ◌^◌, length, IfSome};
+ghost use Rattle.std.specs.Prelude.{◌≡◌, ◌+◌, ◌*◌, ◌<◌, ◌^◌, length, IfSome};
 
 #[derive(Clone, Copy)]
 pub struct Reader<'a> {
@@ -42,7 +42,9 @@ impl<'a> Reader<'a> {
     }
 
     // A number of numbers, and these, which it puts into a table.
-    pub fn numbers<'t>(&mut self, table: &'t mut [u64; 255]) -> Option<&'t [u64]> {
+    pub fn numbers<'t>(&mut self, table: &'t mut [u64; 255]) -> Option<&'t [u64]>
+        ensures { IfSome result (λ numbers. length self.new.rest.now + 1 + 8 * length numbers.now ≡ length self.old.rest.now) }
+    {
         let count = usize::from(self.byte()?);
         let numbers = &mut table[..count];
         for number in numbers.iter_mut() {
