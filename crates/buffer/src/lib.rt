@@ -52,6 +52,7 @@ pub fn put_number(buf: &mut [u8], at: usize, k: usize, n: u64)
 }
 
 // A yes or no at a place: 4 bytes, 0 or 1.
+#[tactic(auto, using(crate::specs::Laws::Laid::bit_from))]
 pub fn put_flag(buf: &mut [u8], at: usize, yes: bool)
     ensures { buf.new ≡ put_in buf.old at (spelt 4 (bit yes)) }
 {

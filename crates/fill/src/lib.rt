@@ -1,7 +1,8 @@
 // The rows of the rules and elements of a deck that was accepted, put into two lent tables of 32-bit numbers.
 #![tactic(auto)]
 
-ghost use Rattle.std.specs.Prelude.{◌≡◌, ◌≤◌, ◌<◌, ◌+◌, ◌^◌, length};
+ghost use Rattle.std.specs.Prelude.{◌≡◌, ◌≤◌, ◌<◌, ◌+◌, ◌^◌, length, IfErr};
+ghost use Rattle.format.specs.Laws.Fault.{Own};
 ghost use Rattle.rule.specs.Places.{data_at};
 ghost use Rattle.buffer.specs.Laid.{put};
 ghost use Rattle.fill.specs.Laws.Fill.{Under, ElementsFill};
@@ -158,7 +159,7 @@ pub fn fill_rules(
     rules: &mut [u32],
     elements: &mut [u32],
 ) -> Read
-    ensures { RulesFill product s.now base n rules.old rules.new elements.old elements.new result }
+    ensures { RulesFill product s.now base n rules.old rules.new elements.old elements.new result × IfErr result Own }
 {
     if 60000 < s.len() {
         return Err(Refusal::At(Fault::Long, 60000));

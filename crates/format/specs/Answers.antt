@@ -1,9 +1,6 @@
--- What the code answers: a value and the place past it, a place, or a refusal.
+-- What a call answers: a place or a number, or a refusal.
 use Rattle.std.specs.Prelude.{ℕ, Result}
 use Rattle.format.specs.declared.Refusal.{Refusal}
-
-abbrev pub Read : Type 0
-Read = Result (ℕ × ℕ) Refusal
 
 abbrev pub Outcome : Type 0
 Outcome = Result ℕ Refusal

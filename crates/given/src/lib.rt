@@ -16,6 +16,7 @@ pub fn is_text(s: &[u8]) -> bool
 }
 
 // A given element: its identifier, then its data to the last byte.
+#[tactic(auto, using(crate::specs::Laws::Given::given_no))]
 pub fn given_element(product: Product, identifier: u32, s: &[u8]) -> Read
     ensures { result ≡ told 0 none (given product identifier s.now) }
 {

@@ -22,6 +22,7 @@ fn named_data_at(s: &[u8], at: usize, kind: Kind, identifier: u64) -> Read
 }
 
 // The element at the start of a part; its value is its identifier.
+#[tactic(auto, using(element::specs::Laws::Element::element_cut, element::specs::Laws::Element::element_off))]
 fn read_element(rest: &[u8], product: Product) -> Read
     ensures { result ≡ seen named (element product) rest.now 0 }
 {

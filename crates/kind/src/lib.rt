@@ -28,12 +28,15 @@ pub enum Kind {
     Dates(Role),
 }
 
+// What the number of an edition answers: its product, if it is an edition's.
+pub type Edition = Option<Product>;
+
 // What an identifier answers: its row of the kinds, or a refusal.
 pub type Row = Result<Kind, Refusal>;
 
 // The product of an edition's number.
 #[tactic(auto, unfolding(crate::specs::Kinds::edition_of, format::specs::Format::pick))]
-pub fn edition_of(edition: u64) -> Option<Product>
+pub fn edition_of(edition: u64) -> Edition
     ensures { result ≡ edition_of edition }
 {
     match edition {

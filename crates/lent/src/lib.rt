@@ -7,7 +7,7 @@ ghost use Rattle.lent.specs.Lent.{Lends};
 use format::{Fault, Outcome, Refusal};
 
 // A row at the start of a table; 14 where there is no room for it.
-#[tactic(auto, using(crate::specs::Laws::Lent::room, buffer::specs::Laws::Laid::put_first), unfolding(crate::specs::Lent::lent_says, crate::specs::Lent::lent_leaves, format::specs::Format::pick))]
+#[tactic(auto, using(crate::specs::Laws::Lent::room, buffer::specs::Laws::Laid::put_first, std::proofs::lemmas::Grind::common_steps), unfolding(crate::specs::Lent::lent_says, crate::specs::Lent::lent_leaves, format::specs::Format::pick))]
 pub fn put_row(t: &mut [u32], row: &[u32]) -> Outcome
     ensures { Lends (length row.now) t.old (Ok 0, row.now) result t.new }
 {

@@ -35,6 +35,7 @@ fn spot_of(s: &[u8], version: u64, base: usize, n: u64, k: u64) -> Spot
 }
 
 // Where rule k of a deck stands.
+#[tactic(auto, using(crate::specs::Laws::Spots::located_no))]
 pub fn locate(edition: u64, s: &[u8], k: u64) -> Spot
     ensures { result ≡ located (λ rs. k) (read_deck edition s.now) }
 {

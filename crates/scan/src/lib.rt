@@ -1,4 +1,4 @@
-// What a pass over a deck tells, as an outcome; and a refusal as that of a pass.
+// What a pass over a deck tells, and what that says as an outcome.
 #![tactic(auto)]
 
 ghost use Rattle.std.specs.Prelude.{◌≡◌};

@@ -1,7 +1,7 @@
 // Bytes zeroed, and shifted down or up.
 #![tactic(auto)]
 
-ghost use Rattle.std.specs.Prelude.{◌≡◌, length};
+ghost use Rattle.std.specs.Prelude.{◌≡◌, ◌-◌, length};
 ghost use Rattle.buffer.specs.Laid.{zeros};
 ghost use Rattle.buffer.specs.Laws.Laid.{down, up};
 
@@ -18,8 +18,8 @@ pub fn zero(p: &mut [u8])
 pub fn shift_down(p: &mut [u8], by: usize)
     ensures { p.new ≡ down by p.old }
 {
-    if by < p.len() {
-        p.copy_within(by.., 0);
+    for from in by..p.len() {
+        p[from - by] = p[from];
     }
 }
 
@@ -27,7 +27,7 @@ pub fn shift_down(p: &mut [u8], by: usize)
 pub fn shift_up(p: &mut [u8], by: usize)
     ensures { p.new ≡ up by p.old }
 {
-    if by < p.len() {
-        p.copy_within(..p.len() - by, by);
+    for to in (by..p.len()).rev() {
+        p[to] = p[to - by];
     }
 }

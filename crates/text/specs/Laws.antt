@@ -1,3 +1,4 @@
+pub mod Answers
 pub mod Length
 pub mod Written
 pub mod Seen

@@ -1,4 +1,3 @@
-pub mod Answers
 pub mod Length
 pub mod Text
 pub mod Laws

@@ -33,7 +33,7 @@ pub type Valued = Result<Value, Refusal>;
 
 // What follows reads sound data, whose fields stand at fixed places.
 
-#[tactic(auto, using(crate::specs::Laws::Places::number_fits, crate::specs::Laws::Places::words_are))]
+#[tactic(auto, using(crate::specs::Laws::Places::number_fits_4, crate::specs::Laws::Places::words_are))]
 fn words_in(s: &[u8]) -> Valued
     ensures { Holds word_data s.now (λ d. Words (length (words_of d))) result }
 {
@@ -41,7 +41,7 @@ fn words_in(s: &[u8]) -> Valued
     Ok(Value::Words(n as u32))
 }
 
-#[tactic(auto, using(crate::specs::Laws::Places::number_fits, crate::specs::Laws::Places::sizes_are))]
+#[tactic(auto, using(crate::specs::Laws::Places::number_fits_4, crate::specs::Laws::Places::sizes_are))]
 fn sizes_in(s: &[u8]) -> Valued
     ensures { Holds size_data s.now (λ d. Size (sizes_of d).0 (sizes_of d).1) result }
 {

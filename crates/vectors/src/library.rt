@@ -227,26 +227,22 @@ impl Vector<'_> {
         })
     }
 
-    // The calls that leave a buffer, which is the first string.
-    fn edit(self, effect: &mut Text) -> Option<Outcome> {
-        let mut buffer = *self.first;
-        let count = buffer.count;
-        let outcome = self.change(&mut buffer.bytes[..count])?;
-        *effect = buffer;
-        Some(outcome)
-    }
-
-    // Makes the call; its effect goes to one that is empty.
-    pub fn run(self, effect: &mut Text) -> Option<Answer> {
+    // Makes the call: what is answered, and whether its effect is the one that is wanted. An edit leaves a buffer, which was the first string.
+    pub fn run(self, wanted: &[u8]) -> Option<(Answer, bool)> {
+        let mut effect = Text::new();
         let outcome = match self.call {
             Call::Kind | Call::Moment | Call::Fields | Call::NamePart | Call::WordPart => {
-                self.fill(effect)?
+                self.fill(&mut effect)?
             }
-            Call::Value => self.value(effect)?,
-            Call::Read => self.read(effect)?,
-            Call::Base | Call::Check | Call::Name | Call::Word => self.look(effect)?,
-            _ => self.edit(effect)?,
+            Call::Value => self.value(&mut effect)?,
+            Call::Read => self.read(&mut effect)?,
+            Call::Base | Call::Check | Call::Name | Call::Word => self.look(&mut effect)?,
+            _ => {
+                effect.push(self.first.as_slice())?;
+                let count = effect.count;
+                self.change(&mut effect.bytes[..count])?
+            }
         };
-        Some(outcome.into())
+        Some((outcome.into(), effect.as_slice() == wanted))
     }
 }

@@ -33,11 +33,17 @@ fn judge(bytes: &[u8], base: &mut Text) -> Option<Verdict> {
     }
     let mut strings = [Text::new(); 3];
     for string in strings.iter_mut().take(count) {
-        *string = packing::unpack(&mut reader, base.as_slice(), b"")?;
+        packing::unpack(&mut reader, base.as_slice(), b"", string)?;
     }
     let [first, second, third] = &strings;
     let wanted = Answer::packed(reader.eight()?);
-    let wanted_effect = packing::unpack(&mut reader, base.as_slice(), first.as_slice())?;
+    let mut wanted_effect = Text::new();
+    packing::unpack(
+        &mut reader,
+        base.as_slice(),
+        first.as_slice(),
+        &mut wanted_effect,
+    )?;
     if !reader.rest.is_empty() {
         return None;
     }
@@ -48,12 +54,11 @@ fn judge(bytes: &[u8], base: &mut Text) -> Option<Verdict> {
         second: second.as_slice(),
         third: third.as_slice(),
     };
-    let mut effect = Text::new();
-    let answer = vector.run(&mut effect)?;
+    let (answer, alike) = vector.run(wanted_effect.as_slice())?;
     if call == Call::Base {
         *base = *first;
     }
-    if answer == wanted && effect.as_slice() == wanted_effect.as_slice() {
+    if answer == wanted && alike {
         return Some(Verdict::Agrees);
     }
     Some(Verdict::Differs(call, answer))

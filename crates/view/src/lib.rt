@@ -12,6 +12,7 @@ use text::{Form, StringRead};
 pub type View = Result<(usize, usize, Form), Refusal>;
 
 // The units of a String that was read: they end where it ends.
+#[tactic(auto, using(crate::specs::Laws::View::units_past, crate::specs::Laws::View::units_odd, crate::specs::Laws::View::units_are), unfolding(crate::specs::Laws::View::units_of))]
 pub fn units_of(s: &[u8], t: StringRead) -> View
     ensures { result ≡ units_of (length s.now) t }
 {

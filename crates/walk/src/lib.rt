@@ -1,6 +1,8 @@
 // The elements of a rule of a sound deck: how many they are, where each starts, and its identifier.
 #![tactic(auto)]
 
+ghost use Rattle.std.specs.Prelude.{IfErr};
+ghost use Rattle.format.specs.Laws.Fault.{Own};
 ghost use Rattle.format.specs.Laws.Skip.{Skipped};
 ghost use Rattle.rule.specs.Rule.{placed};
 ghost use Rattle.walk.specs.Laws.Elements.{Counts, Elements, Identifies};
@@ -10,7 +12,7 @@ use kind::Product;
 
 // The number of elements of rule i, and where they start behind its head.
 fn counted_at(s: &[u8], at: usize, i: u64) -> Read
-    ensures { Counts s.now at i result }
+    ensures { Counts s.now at i result × IfErr result Own }
 {
     let c = wire::u16_at(s, at);
     let Ok((p, n)) = c else {
@@ -25,7 +27,7 @@ fn counted_at(s: &[u8], at: usize, i: u64) -> Read
 
 // The same, from the start of rule i.
 pub fn elements_of(s: &[u8], at: usize, i: u64) -> Read
-    ensures { Elements s.now at i result }
+    ensures { Elements s.now at i result × IfErr result Own }
 {
     let t = steps::name_end(s, at);
     let Ok((e, _)) = t else {
@@ -39,14 +41,14 @@ pub fn elements_of(s: &[u8], at: usize, i: u64) -> Read
 
 // Where element e of a row of elements starts.
 pub fn element_start(s: &[u8], at: usize, product: Product, e: u64) -> Read
-    ensures { Skipped (placed product) s.now at e e result }
+    ensures { Skipped (placed product) s.now at e e result × IfErr result Own }
 {
     each::each_at(|p, j| rule::placed_at(s, p, product, j), at, e)
 }
 
 // The identifier of the element at place j of its rule, behind its 8001; it ends where its data start.
 pub fn identifier_at(s: &[u8], at: usize, j: u64) -> Read
-    ensures { Identifies s.now at j result }
+    ensures { Identifies s.now at j result × IfErr result Own }
 {
     if j == 0 {
         return wire::u32_at(s, at);

@@ -5,8 +5,8 @@ use Rattle.std.proofs.Math.Path.{ap}
 use mathlib.Core.List.{List, [], ◌∷◌}
 use Rattle.std.proofs.Math.ListN.{drop, drop_of_length-le}
 use Rattle.format.specs.declared.Fault.{Fault}
-use Rattle.format.specs.Answers.{Read}
-use Rattle.text.specs.Answers.{StringRead}
+use Rattle.format.specs.Laws.Answers.{Read}
+use Rattle.text.specs.Laws.Answers.{StringRead}
 use Rattle.view.specs.Answers.{View}
 use Rattle.format.specs.declared.Refusal.{Refusal}
 use Rattle.format.specs.declared.Refusal.TheVariants.{At}

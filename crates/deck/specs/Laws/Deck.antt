@@ -11,7 +11,8 @@ use Rattle.std.proofs.Math.Seq.{drop-length, drop-drop}
 use Rattle.std.proofs.lemmas.Bool.{lt-leb}
 use Rattle.format.specs.declared.Fault.{Fault}
 use Rattle.kind.specs.Answers.{Edition}
-use Rattle.format.specs.Answers.{Outcome, Read}
+use Rattle.format.specs.Answers.{Outcome}
+use Rattle.format.specs.Laws.Answers.{Read}
 use Rattle.scan.specs.Answers.{Scan}
 use Rattle.format.specs.declared.Refusal.{Refusal}
 use Rattle.format.specs.declared.Refusal.TheVariants.{At}

@@ -1,7 +1,8 @@
 -- A reader asked again and again, each time from where it ended before; and a loop that does so.
-use Rattle.std.specs.Prelude.{ℕ, zero, suc, ◌+◌, ◌-◌, ◌≤◌, ◌<◌, ◌≡◌, refl, Ok, Err}
+use Rattle.std.specs.Prelude.{ℕ, zero, suc, ◌+◌, ◌-◌, ◌≤◌, ◌<◌, ◌≡◌, refl, Ok, Err, IfErr}
 use Rattle.std.proofs.Common.{arith, sym, ◌∙◌}
-use Rattle.format.specs.Answers.{Read}
+use Rattle.format.specs.Laws.Answers.{Read}
+use Rattle.format.specs.Laws.Fault.{Own}
 use Rattle.format.specs.declared.Refusal.{Refusal}
 
 -- behind a reading that said q, r is what `on` says from where it ended; its refusal is r
@@ -26,6 +27,19 @@ module _ (P : ℕ → ℕ → Read → Type 0) (one : (at i : ℕ) (q r : Read) 
   unfolding Chain
   chain_one zero i at r t w u = w ∙ sym u
   chain_one (suc k) i at r t w u = one_on _ _ w.0 r t (λ p. chain_one k (i + 1) p r t) w.1.1 (rw (one at i u.0 w.0 u.1.0 w.1.0) at u.1.1)
+
+-- ---- its refusal is its own where that of each reading is
+
+own_on : (U : ℕ → Type 0) (q r : Read) → ((p : ℕ) → U p → IfErr r Own) → IfErr q Own → Onward U q r → IfErr r Own
+unfolding Onward
+own_on U (Ok (p, v)) r f o u = f p u
+own_on U (Err why) r f o u = rw u o
+
+module _ (P : ℕ → ℕ → Read → Type 0) (own : (at i : ℕ) (q : Read) → P at i q → IfErr q Own) where
+  pub chain_own : (k i at : ℕ) (r : Read) → Chain P at i k r → IfErr r Own
+  unfolding Chain
+  chain_own zero i at r w = rw w tt
+  chain_own (suc k) i at r w = own_on _ w.0 r (λ p u. chain_own k (i + 1) p r u) (own at i w.0 w.1.0) w.1.1
 
 -- ---- as the code goes
 

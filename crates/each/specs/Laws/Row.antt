@@ -1,7 +1,7 @@
 -- What Chain.antt comes to where each reading is of a value of a row.
 use Rattle.std.specs.Prelude.{ℕ, zero, suc, ◌+◌, ◌-◌, ◌<◌, ◌≡◌, refl, List, length, Ok, Err}
 use Rattle.std.proofs.Common.{arith, ◌∙◌}
-use Rattle.format.specs.Answers.{Read}
+use Rattle.format.specs.Laws.Answers.{Read}
 use Rattle.format.specs.Format.{Format}
 use Rattle.format.specs.Combinators.{each}
 use Rattle.format.specs.Laws.Seen.{seen, none, ok_parts, unlike}

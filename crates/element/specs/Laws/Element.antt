@@ -3,7 +3,7 @@ use Rattle.std.specs.Prelude.{ℕ, ◌<◌, ◌≡◌, List, length, Ok, Err}
 use Rattle.std.proofs.Common.{arith, ap, ◌∙◌}
 use Rattle.std.proofs.Math.Path.{refl, sym}
 use Rattle.format.specs.declared.Fault.{Fault}
-use Rattle.format.specs.Answers.{Read}
+use Rattle.format.specs.Laws.Answers.{Read}
 use Rattle.kind.specs.Answers.{Row}
 use Rattle.format.specs.declared.Refusal.{Refusal}
 use Rattle.format.specs.declared.Refusal.TheVariants.{At}
@@ -50,17 +50,30 @@ module _ (p : Product) (s : List ℕ) (at : ℕ) {a : Read} where
 
   -- r is its row in the product
   module _ {r : Row} {id m : ℕ} where
-    pub element_no : {why : Refusal} → a ≡ seen itself (number 4) s at → a ≡ Ok (m, id) → at ≡ 0 → r ≡ row_of p id → r ≡ Err why → ◌≡◌ {A = Read} (Err why) (seen named (element p) s at)
+    -- there is none, or none in the product: the row's fault, which stands at 0 of the identifier
+    row_no : {why : Refusal} → a ≡ seen itself (number 4) s at → a ≡ Ok (m, id) → r ≡ row_of p id → r ≡ Err why
+        → (c : Fault) × ((why ≡ At c 0) × (Err (At c at) ≡ seen named (element p) s at))
     unfolding element identifier row_of offered
-    element_no {why} e h z f k = pair_stop named (identifier p) _ s at itself (go (row_in kinds id) refl) refl
+    row_no {why} e h f k = let w = go (row_in kinds id) refl in (w.0, (w.1.0, pair_stop named (identifier p) _ s at itself w.1.1 refl))
       where
-        go : (w : Row) → row_in kinds id ≡ w → ◌≡◌ {A = Read} (Err why) (seen itself (identifier p) s at)
+        go : (w : Row) → row_in kinds id ≡ w → (c : Fault) × ((why ≡ At c 0) × (Err (At c at) ≡ seen itself (identifier p) s at))
         go (Err d) y =
-            let u : why ≡ At Fault.Unknown at = rw z (lacking kinds id (y ∙ sym (ap (offered p) y) ∙ sym f ∙ k)) in
-            rw u (judged_stop itself _ Fault.Foreign _ s at (judged_no itself (λ i. is_row (row_in kinds i)) Fault.Unknown (number 4) s at e h (sym (ap is_row y))) refl)
+            let u = judged_no itself (λ i. is_row (row_in kinds i)) Fault.Unknown (number 4) s at e h (sym (ap is_row y)) in
+            (Fault.Unknown, (lacking kinds id (y ∙ sym (ap (offered p) y) ∙ sym f ∙ k), judged_stop itself _ Fault.Foreign _ s at u refl))
         go (Ok j) y =
-            let u : why ≡ At Fault.Foreign at = rw z (foreign p j (sym (ap (offered p) y) ∙ sym f ∙ k)) in
-            rw u (judged_no itself (λ i. is_row (row_of p i)) Fault.Foreign _ s at (in_table e h y) refl (sym (ap is_row (sym f ∙ k))))
+            let u = judged_no itself (λ i. is_row (row_of p i)) Fault.Foreign _ s at (in_table e h y) refl (sym (ap is_row (sym f ∙ k))) in
+            (Fault.Foreign, (foreign p j (sym (ap (offered p) y) ∙ sym f ∙ k), u))
+
+    pub element_no : {c : Fault} {q : ℕ} → a ≡ seen itself (number 4) s at → a ≡ Ok (m, id) → r ≡ row_of p id → r ≡ Err (At c q) → Err (At c at) ≡ seen named (element p) s at
+    element_no {c} {q} e h f k =
+        let w = row_no e h f k in
+        let t : At c q ≡ At w.0 0 = w.1.0 in
+        let u : c ≡ w.0 = cc in
+        rw u w.1.1
+
+    -- where it was read at 0, that is the row's refusal
+    pub element_off : {why : Refusal} → a ≡ seen itself (number 4) s at → a ≡ Ok (m, id) → at ≡ 0 → r ≡ row_of p id → r ≡ Err why → ◌≡◌ {A = Read} (Err why) (seen named (element p) s at)
+    element_off e h z f k = let w = row_no e h f k in rw (w.1.0, ← z) w.1.1
 
     -- x is what was read of the data of the kind
     pub element_is : {x : Read} {k : Kind} → a ≡ seen itself (number 4) s at → a ≡ Ok (m, id) → r ≡ row_of p id → r ≡ Ok k → x ≡ seen (λ d. id) (data_of k) s m → x ≡ seen named (element p) s at

@@ -1,10 +1,11 @@
 -- Rows in a table, and a loop that fills one.
-use Rattle.std.specs.Prelude.{ℕ, ◌+◌, ◌-◌, ◌*◌, ◌^◌, ◌<◌, ◌≤◌, ◌≡◌, refl, List, [], ◌∷◌, ◌++◌, Bool, true, false, eqb, length, Ok, Err}
+use Rattle.std.specs.Prelude.{ℕ, ◌+◌, ◌-◌, ◌*◌, ◌^◌, ◌<◌, ◌≤◌, ◌≡◌, refl, List, [], ◌∷◌, ◌++◌, Bool, true, false, eqb, length, Ok, Err, IfErr}
 use Rattle.std.proofs.Common.{add-zero, zero-add, arith, ap₂, ◌∙◌, subst, length-append, drop_of_length-le, drop-drop}
 use Rattle.std.proofs.Math.Nat.{mod-le}
 use Rattle.std.proofs.Math.Path.{sym, ap}
 use Rattle.std.proofs.Math.ListN.{drop}
-use Rattle.format.specs.Answers.{Read}
+use Rattle.format.specs.Laws.Answers.{Read}
+use Rattle.format.specs.Laws.Fault.{Own}
 use Rattle.format.specs.declared.Refusal.{Refusal}
 use Rattle.format.specs.declared.Refusal.TheVariants.{At, Given}
 use Rattle.format.specs.Format.{Format, Bytes, pick}
@@ -16,7 +17,7 @@ use Rattle.format.specs.Laws.Written.{Row}
 use Rattle.format.specs.Laws.Back.{back_got, back_no, seen_fits, seen_stops}
 use Rattle.format.specs.Laws.Skip.{start_first, start_end, start_more, nth}
 use Rattle.kind.specs.declared.Product.{Product}
-use Rattle.text.specs.Answers.{StringRead}
+use Rattle.text.specs.Laws.Answers.{StringRead}
 use Rattle.text.specs.Text.{string, length_of}
 use Rattle.text.specs.Laws.Seen.{text_seen, end_read, end_is}
 use Rattle.element.specs.Element.{Element, element, identifier}
@@ -128,7 +129,12 @@ module _ (p : Product) (s : List ℕ) (at base i n k : ℕ) (t : List ℕ) where
 abbrev pub Under : ℕ → Read → Type 0
 Under b (Ok (m, n)) = (n < 2 ^ 16) × (m ≤ b)
 Under b (Err (At c q)) = q ≤ b
-Under b (Err (Given c q)) = q ≤ b
+Under b (Err (Given c q)) = ⊥
+
+pub under_own : (b : ℕ) (r : Read) → Under b r → IfErr r Own
+under_own b (Ok (m, n)) h = tt
+under_own b (Err (At c q)) h = tt
+under_own b (Err (Given c q)) h = h
 
 pub under_got : {b n m : ℕ} {r : Read} → Under b r → r ≡ Ok (m, n) → (n < 2 ^ 16) × (m ≤ b)
 under_got {b} h e = subst (Under b) e h
@@ -151,7 +157,7 @@ under_further a {b} at {why = why} h e f l = rw f (go why (subst (Under a) e h))
   where
     go : (x : Refusal) → Under a (Err x) → Under b (Err (further at x))
     go (At c q) w = omega (arith, mod-le (at + q) (2 ^ 64))
-    go (Given c q) w = omega arith
+    go (Given c q) w = w
 
 -- an identifier has 32 bits
 pub identifier_small : (p : Product) (j : ℕ) (s : List ℕ) (at : ℕ) {r : Read} {v m : ℕ} → Bytes s → r ≡ seen named (placed p j) s at → r ≡ Ok (m, v) → v < 2 ^ 32
@@ -169,4 +175,4 @@ two_small s at bs e h = let o = seen_fits itself (number 2) s at bs e h in rw o.
 pub under_up : {a b : ℕ} (r : Read) → Under a r → a ≤ b → Under b r
 under_up (Ok (m, n)) h l = (h.0, omega (arith, h.1))
 under_up (Err (At c q)) h l = omega arith
-under_up (Err (Given c q)) h l = omega arith
+under_up (Err (Given c q)) h l = h

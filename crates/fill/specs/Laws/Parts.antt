@@ -1,8 +1,8 @@
 -- The parts of a rule that is known to stand at a place, and what the code reads and stores of it.
 use Rattle.std.specs.Prelude.{ℕ, ◌+◌, ◌*◌, ◌<◌, ◌≤◌, ◌≡◌, refl, List, [], ◌∷◌, length, drop, Ok, Err}
 use Rattle.std.proofs.Common.{arith, sym, ap, ◌∙◌}
-use Rattle.format.specs.Answers.{Read}
-use Rattle.text.specs.Answers.{StringRead}
+use Rattle.format.specs.Laws.Answers.{Read}
+use Rattle.text.specs.Laws.Answers.{StringRead}
 use Rattle.format.specs.declared.Refusal.{Refusal}
 use Rattle.format.specs.ReadWrite.{each_write}
 use Rattle.format.specs.Combinators.{number}

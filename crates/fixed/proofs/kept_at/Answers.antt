@@ -1,5 +1,5 @@
 use mathlib.Core.Path.{refl}
-use Rattle.fixed.specs.Laws.Fixed.{kept_1, kept_2, kept_3, kept_4, kept_5, kept_is}
+use Rattle.fixed.specs.Laws.Fixed.{kept_1, kept_2, kept_3, kept_4, kept_5, kept_read}
 use Rattle.fixed.proofs.kept_at.Goals as goal
 
 pub returns-in_err-p : goal.returns-in_err-p
@@ -18,4 +18,4 @@ pub returns-in_err-unknown5 : goal.returns-in_err-unknown5
 returns-in_err-unknown5 c = kept_5 _ _ _ c.in_ok-p.ensures refl c.in_ok-q.ensures refl c.in_ok-r.ensures refl c.in_ok-t.ensures refl c.in_err-unknown5.ensures _ refl
 
 pub returns : goal.returns
-returns c = kept_is _ _ _ c.in_ok-p.ensures refl c.in_ok-q.ensures refl c.in_ok-r.ensures refl c.in_ok-t.ensures refl c.in_ok-unknown5.ensures refl
+returns c = kept_read _ _ _ c.in_ok-p.ensures refl c.in_ok-q.ensures refl c.in_ok-r.ensures refl c.in_ok-t.ensures refl c.in_ok-unknown5.ensures refl

@@ -3,7 +3,7 @@ use Rattle.std.specs.Prelude.{ℕ, ◌+◌, ◌-◌, ◌≤◌, ◌≡◌, List,
 use Rattle.std.proofs.Common.{arith, sym, ap, ◌∙◌, length-append}
 use Rattle.std.proofs.Math.ListN.{length, length-drop}
 use Rattle.format.specs.declared.Fault.{Fault}
-use Rattle.format.specs.Answers.{Read}
+use Rattle.format.specs.Laws.Answers.{Read}
 use Rattle.format.specs.declared.Refusal.{Refusal}
 use Rattle.format.specs.declared.Refusal.TheVariants.{At}
 use Rattle.format.specs.Format.{got, refused, end_of, Bytes, Format}

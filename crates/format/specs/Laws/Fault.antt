@@ -1,5 +1,5 @@
 -- Laws of ../Fault.antt: one number both ways; and a refusal handed on as another.
-use Rattle.std.specs.Prelude.{ℕ, ◌+◌, ◌-◌, ◌/◌, ◌%◌, ◌^◌, ◌<◌, ◌≡◌, refl, List, [], ◌∷◌, eqb, ltb, get_or, Result, Ok, Err}
+use Rattle.std.specs.Prelude.{ℕ, ◌+◌, ◌-◌, ◌/◌, ◌%◌, ◌^◌, ◌<◌, ◌≡◌, refl, List, [], ◌∷◌, eqb, ltb, get_or, Result, Ok, Err, IfErr, ⊤}
 use Rattle.std.proofs.Common.{arith, sym, ap, ap₂, ◌∙◌, lit<, ne_eqb, lt-ltb, le-ltb}
 use Rattle.format.specs.declared.Fault.{Fault}
 use Rattle.format.specs.declared.Fault.TheVariants.{Edition, Long, Cut, Mark, Version, Count, Form, Field, Unknown, Foreign, Date, Size, Over, Table, Stated, Absent, Text, Rules, Large, Room, Full, Last, Offset}
@@ -15,6 +15,15 @@ pub given_ok : {A : Type 0} (r : Result A Refusal) {u : Result A Refusal} {x : A
 given_ok (Ok y) e h = sym e ∙ h
 given_ok (Err (At c p)) e h = cc
 given_ok (Err (Given c p)) e h = cc
+
+-- a refusal of what is read, and not of "the second deck or given element data"
+abbrev pub Own : Refusal → Type 0
+Own (At c p) = ⊤
+Own (Given c p) = ⊥
+
+-- so it stays where it is handed on
+pub own_handed : {A B : Type 0} (r : Result A Refusal) (w : Result B Refusal) {why : Refusal} → IfErr w Own → w ≡ Err why → r ≡ Err why → IfErr r Own
+own_handed r w o e h = rw h (rw e at o)
 
 -- a refusal of a part that starts at a place, by its place in the whole: of 64 bits
 abbrev pub further : ℕ → Refusal → Refusal

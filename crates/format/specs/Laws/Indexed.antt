@@ -9,7 +9,7 @@ use mathlib.Core.List.{List, [], ◌∷◌, ◌++◌}
 use Rattle.std.proofs.Math.ListN.{length, drop, length-drop}
 use Rattle.std.proofs.Math.Seq.{drop-drop}
 use Rattle.format.specs.declared.Fault.{Fault}
-use Rattle.format.specs.Answers.{Read}
+use Rattle.format.specs.Laws.Answers.{Read}
 use Rattle.format.specs.declared.Refusal.{Refusal}
 use Rattle.format.specs.declared.Refusal.TheVariants.{At}
 use Rattle.format.specs.Format.{got, refused, mapped, pick, Format}

@@ -1,5 +1,5 @@
 -- What the code says of a format at a place of a slice, and the laws by which its readers go, one after the other: the set `reading`.
-use Rattle.std.specs.Prelude.{ℕ, ◌+◌, ◌-◌, ◌*◌, ◌/◌, ◌%◌, ◌^◌, ◌≤◌, ◌<◌, ◌≡◌, Bool, true, false, List, take, drop, leb, eqb, Ok, Err}
+use Rattle.std.specs.Prelude.{ℕ, ◌+◌, ◌-◌, ◌*◌, ◌/◌, ◌%◌, ◌^◌, ◌≤◌, ◌<◌, ◌≡◌, Bool, true, false, List, take, drop, leb, eqb, Ok, Err, IfErr}
 use Rattle.std.proofs.Common.{add_assoc, add-zero, mod-eq_of_lt, arith, ◌∙◌, drop-drop, length-take-le}
 use Rattle.std.proofs.Math.Nat.{add-mul-mod_self_left, mul-div_right}
 use Rattle.std.proofs.Math.Path.{refl, sym, ap}
@@ -7,7 +7,8 @@ use Rattle.std.proofs.Math.ListN.{length, length-drop}
 use borrow.Author.Tests.{leb-true, lt-leb, le-leb, eq-eqb, ne_eqb}
 use Rattle.format.specs.declared.Fault.{Fault}
 use Rattle.format.specs.declared.Fault.TheVariants.{Cut, Count, Field}
-use Rattle.format.specs.Answers.{Read}
+use Rattle.format.specs.Laws.Answers.{Read}
+use Rattle.format.specs.Laws.Fault.{Own}
 use Rattle.format.specs.declared.Refusal.{Refusal}
 use Rattle.format.specs.declared.Refusal.TheVariants.{At}
 use Rattle.format.specs.Format.{Answer, got, refused, shift, mapped, and_then, pick, Format, Bytes}
@@ -52,6 +53,15 @@ ok_parts e = (ap end_in e, ap value_in e)
 
 pub unlike : {B : Type 0} {r : Read} {v m : ℕ} {why : Refusal} → r ≡ Ok (m, v) → r ≡ Err why → B
 unlike e h = absurd (let z : ◌≡◌ {A = ℕ} 0 1 = cc in omega arith)
+
+-- a reader's refusal is its own
+pub seen_own : {A : Type 0} (g : A → ℕ) (f : Format A) (s : List ℕ) (at : ℕ) {r : Read} → r ≡ seen g f s at → IfErr r Own
+unfolding seen told
+seen_own {A = A} g f s at e = rw e (go (f.read (drop at s)))
+  where
+    go : (a : Answer A) → IfErr (told at g a) Own
+    go (got x n) = tt
+    go (refused c p) = tt
 
 -- the same value, ending at the same place
 pub got_at : {v a b : ℕ} → a ≡ b → ◌≡◌ {A = Read} (Ok (a, v)) (Ok (b, v))

@@ -1,7 +1,7 @@
 -- Where a value of a row stands: behind those before it; and a loop that goes there.
 use Rattle.std.specs.Prelude.{ℕ, zero, suc, ◌+◌, ◌≤◌, ◌<◌, ◌≡◌, refl, List, [], ◌∷◌, ◌++◌, length, take, drop, Ok, Err}
 use Rattle.std.proofs.Common.{add-zero, zero-add, arith, sym, ◌∙◌, append-nil, append_assoc, length-append, length-drop, take_all}
-use Rattle.format.specs.Answers.{Read}
+use Rattle.format.specs.Laws.Answers.{Read}
 use Rattle.format.specs.declared.Refusal.{Refusal}
 use Rattle.format.specs.Format.{Format}
 use Rattle.format.specs.ReadWrite.{each_write, AllFit}

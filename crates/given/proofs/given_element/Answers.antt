@@ -1,9 +1,6 @@
-use Rattle.given.specs.Laws.Given.{given_none, given_stop, given_over, given_is}
+use Rattle.given.specs.Laws.Given.{given_stop, given_over, given_is}
 use borrow.Author.Rules.{rules}
 use Rattle.given.proofs.given_element.Goals as goal
-
-pub returns-in_err-kind : goal.returns-in_err-kind
-returns-in_err-kind c = search (rules, given_none c.args.product c.args.identifier c.args.s.now c.row_for.ensures c.in_err-kind.was)
 
 pub returns-in_default : goal.returns-in_default
 returns-in_default c = search (rules, given_stop, c.in_ok-kind.was)

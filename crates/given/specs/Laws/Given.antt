@@ -6,7 +6,8 @@ use Rattle.std.proofs.Common.{◌∙◌, eq-eqb, ne_eqb}
 use Rattle.std.proofs.Math.Bool.{true, false}
 use Rattle.std.proofs.Math.Dec.{eqb}
 use Rattle.format.specs.declared.Fault.{Fault}
-use Rattle.format.specs.Answers.{Outcome, Read}
+use Rattle.format.specs.Answers.{Outcome}
+use Rattle.format.specs.Laws.Answers.{Read}
 use Rattle.kind.specs.Answers.{Row}
 use Rattle.format.specs.declared.Refusal.{Refusal}
 use Rattle.format.specs.declared.Refusal.TheVariants.{At}
@@ -48,6 +49,9 @@ module _ (p : Product) (id : ℕ) (s : List ℕ) {row : Row} where
   pub given_none : {why : Refusal} → row ≡ row_of p id → row ≡ Err why → (x : Read) → x ≡ Err why → x ≡ told 0 none (given p id s)
   unfolding given told
   given_none {why = why} e h x f = let w = row_lacking p id (sym e ∙ h) in f ∙ ap as_read w.1 ∙ sym (ap (λ (r : Row). told 0 none (given_by r id s)) (sym e ∙ h ∙ ap as_row w.1))
+
+  pub given_no : {why : Refusal} → row ≡ row_of p id → row ≡ Err why → ◌≡◌ {A = Read} (Err why) (told 0 none (given p id s))
+  given_no e h = given_none e h _ refl
 
   by : {k : Kind} → row ≡ row_of p id → row ≡ Ok k → given p id s ≡ mapped (with_data id) (whole (length s) ((data_of k).read s))
   unfolding given

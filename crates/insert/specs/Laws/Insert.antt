@@ -10,8 +10,9 @@ use Rattle.std.proofs.Math.ListN.{length, drop, drop_of_length-le}
 use Rattle.std.proofs.lemmas.Bool.{lt-leb}
 use Rattle.format.specs.declared.Fault.{Fault}
 use Rattle.kind.specs.Answers.{Edition}
-use Rattle.format.specs.Answers.{Outcome, Read}
-use Rattle.spot.specs.Answers.{Spot}
+use Rattle.format.specs.Answers.{Outcome}
+use Rattle.format.specs.Laws.Answers.{Read}
+use Rattle.spot.specs.Laws.Answers.{Spot}
 use Rattle.format.specs.declared.Refusal.{Refusal}
 use Rattle.format.specs.declared.Refusal.TheVariants.{At, Given}
 use Rattle.format.specs.Fault.{in_given}

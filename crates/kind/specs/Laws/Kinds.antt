@@ -1,7 +1,8 @@
 -- Laws of ../Kinds.antt: what a row tells, 17 and 35 identifiers, and how the code finds a row.
-use Rattle.std.specs.Prelude.{ℕ, ◌≡◌, refl, Bool, true, false, List, [], ◌∷◌, length, Ok, Err, Some, None}
+use Rattle.std.specs.Prelude.{ℕ, ◌≡◌, refl, Bool, true, false, List, [], ◌∷◌, length, Ok, Err, IfErr, Some, None}
 use Rattle.std.proofs.Common.{arith, ap}
 use Rattle.format.specs.declared.Fault.{Fault}
+use Rattle.format.specs.Laws.Fault.{Own}
 use Rattle.format.specs.Format.{pick}
 use Rattle.kind.specs.declared.Product.{Product}
 use Rattle.kind.specs.declared.Product.TheVariants.{Desk, Studio}
@@ -52,6 +53,19 @@ lacking ((k, ids) ∷ rows) id {why} e = go (has ids id) (lacking rows id) e
     go : (b : Bool) → (row_in rows id ≡ Err why → why ≡ At Fault.Unknown 0) → pick b (Ok k) (row_in rows id) ≡ Err why → why ≡ At Fault.Unknown 0
     go true f h = row_or_fault refl h
     go false f h = f h
+
+-- both are the refusal's own
+pub row_own : (p : Product) (id : ℕ) {r : Row} → r ≡ row_of p id → IfErr r Own
+unfolding row_of offered pick
+row_own p id e = rw e (go (row_in kinds id) refl)
+  where
+    held : (b : Bool) (k : Kind) → IfErr (pick {A = Row} b (Ok k) (Err (At Fault.Foreign 0))) Own
+    held true k = tt
+    held false k = tt
+
+    go : (r : Row) → row_in kinds id ≡ r → IfErr (offered p r) Own
+    go (Ok k) h = held (in_product p k) k
+    go (Err why) h = rw (lacking kinds id h) tt
 
 pub foreign : (p : Product) (j : Kind) {why : Refusal} → offered p (Ok j) ≡ Err why → why ≡ At Fault.Foreign 0
 unfolding offered pick

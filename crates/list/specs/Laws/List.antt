@@ -3,7 +3,7 @@ use Rattle.std.specs.Prelude.{ℕ, ◌+◌, ◌-◌, ◌≡◌, refl, Bool, true
 use Rattle.std.proofs.Common.{arith, sym, ◌∙◌, append_assoc, length-append, drop_of_length-le, drop-drop}
 use Rattle.std.proofs.Math.Path.{ap}
 use Rattle.format.specs.declared.Fault.{Fault}
-use Rattle.format.specs.Answers.{Read}
+use Rattle.format.specs.Laws.Answers.{Read}
 use Rattle.kind.specs.Answers.{Row}
 use Rattle.format.specs.declared.Refusal.{Refusal}
 use Rattle.format.specs.declared.Refusal.TheVariants.{At}

@@ -5,7 +5,7 @@ use Rattle.rule.specs.Rule.{Rule}
 use Rattle.deck.specs.Deck.{Deck, base_of}
 use Rattle.deck.specs.Written.{start_of}
 use Rattle.spot.specs.declared.Site.{Site}
-use Rattle.spot.specs.Answers.{Spot}
+use Rattle.spot.specs.Laws.Answers.{Spot}
 use Rattle.format.specs.declared.Refusal.TheVariants.{At}
 
 -- the number of the last rule

@@ -5,9 +5,10 @@ use Rattle.std.proofs.Math.Path.{◌≡◌, sym, ap, ap₂}
 use Rattle.std.proofs.Math.ListN.{length, length-append}
 use Rattle.format.specs.declared.Fault.{Fault}
 use Rattle.kind.specs.Answers.{Edition}
-use Rattle.format.specs.Answers.{Outcome, Read}
+use Rattle.format.specs.Answers.{Outcome}
+use Rattle.format.specs.Laws.Answers.{Read}
 use Rattle.scan.specs.Answers.{Scan}
-use Rattle.spot.specs.Answers.{Spot}
+use Rattle.spot.specs.Laws.Answers.{Spot}
 use Rattle.format.specs.declared.Refusal.{Refusal}
 use Rattle.format.specs.declared.Refusal.TheVariants.{At}
 use Rattle.format.specs.Format.{Answer, got, refused, Bytes}

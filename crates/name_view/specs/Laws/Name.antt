@@ -1,8 +1,8 @@
 -- Laws of ../Name.antt: how the code finds the name of a rule.
 use Rattle.std.specs.Prelude.{ℕ, ◌+◌, ◌-◌, ◌<◌, ◌≡◌, List, length, Ok, Err}
 use Rattle.std.proofs.Common.{arith}
-use Rattle.format.specs.Answers.{Read}
-use Rattle.text.specs.Answers.{StringRead}
+use Rattle.format.specs.Laws.Answers.{Read}
+use Rattle.text.specs.Laws.Answers.{StringRead}
 use Rattle.view.specs.Answers.{View}
 use Rattle.format.specs.declared.Refusal.{Refusal}
 use Rattle.format.specs.Laws.Back.{Where, stands_room}

@@ -23,10 +23,10 @@ pub overflow_add-i : goal.overflow_add-i
 overflow_add-i c = omega (arith, c.if-rules-gt256.false, c.loop-i-test.true)
 
 pub returns-in_default : goal.returns-in_default
-returns-in_default c = puts_never _ _ _ _ _ _ _ c.loop-i-test.true c.loop-i.invariant.0 c.put_number.ensures c.end_of-r.ensures c.in_default.is
+returns-in_default c = puts_never _ _ _ _ _ _ _ c.loop-i-test.true c.loop-i.invariant.0 c.put_number.ensures c.end_of-r.ensures.0 c.in_default.is
 
 pub loop-i-preserved : goal.loop-i-preserved
-loop-i-preserved c = (puts_go _ _ _ _ _ _ c.loop-i-test.true c.loop-i.invariant.0 c.put_number.ensures c.end_of-r.ensures c.in-Ok.is, c.put_number.auto.buf ∙ c.loop-i.invariant.1)
+loop-i-preserved c = (puts_go _ _ _ _ _ _ c.loop-i-test.true c.loop-i.invariant.0 c.put_number.ensures c.end_of-r.ensures.0 c.in-Ok.is, c.put_number.auto.buf ∙ c.loop-i.invariant.1)
 
 pub returns : goal.returns
 returns c = puts_done _ _ _ _ _ (omega (arith, c.loop-i-test.false)) (omega arith) c.loop-i.invariant.0

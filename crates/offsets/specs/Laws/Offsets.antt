@@ -7,7 +7,7 @@ use mathlib.Core.List.{List, [], ◌∷◌, ◌++◌, append_assoc, append-nil}
 use Rattle.std.proofs.Math.ListN.{length, drop, length-append, length-drop}
 use Rattle.std.proofs.Math.Seq.{length-take-le, drop_at}
 use Rattle.format.specs.declared.Fault.{Fault}
-use Rattle.format.specs.Answers.{Read}
+use Rattle.format.specs.Laws.Answers.{Read}
 use Rattle.format.specs.declared.Refusal.{Refusal}
 use Rattle.format.specs.declared.Refusal.TheVariants.{At}
 use Rattle.format.specs.ReadWrite.{spelt, each_write, AllFit}

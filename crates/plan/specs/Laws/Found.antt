@@ -8,7 +8,7 @@ use borrow.Author.Tests.{le-leb, lt-leb, leb-true}
 use Rattle.format.specs.declared.Fault.{Fault}
 use Rattle.kind.specs.Answers.{Edition}
 use Rattle.format.specs.Answers.{Outcome}
-use Rattle.spot.specs.Answers.{Spot}
+use Rattle.spot.specs.Laws.Answers.{Spot}
 use Rattle.format.specs.declared.Refusal.{Refusal}
 use Rattle.format.specs.declared.Refusal.TheVariants.{At}
 use Rattle.format.specs.Format.{Answer, got, refused, pick, Bytes}

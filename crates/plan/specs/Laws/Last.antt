@@ -4,7 +4,8 @@ use Rattle.std.proofs.Common.{arith, sym, ◌∙◌, length-drop}
 use Rattle.std.proofs.Math.Path.{ap}
 use Rattle.std.proofs.Math.ListN.{length}
 use Rattle.format.specs.declared.Fault.{Fault}
-use Rattle.format.specs.Answers.{Outcome, Read}
+use Rattle.format.specs.Answers.{Outcome}
+use Rattle.format.specs.Laws.Answers.{Read}
 use Rattle.format.specs.declared.Refusal.{Refusal}
 use Rattle.format.specs.declared.Refusal.TheVariants.{At}
 use Rattle.format.specs.ReadWrite.{each_write}

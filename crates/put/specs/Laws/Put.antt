@@ -1,5 +1,5 @@
 -- The data of a value put into a buffer, as the code does it.
-use Rattle.std.specs.Prelude.{ℕ, ◌+◌, ◌≤◌, ◌<◌, ◌≡◌, Bool, false, ◌&&◌, List, ◌++◌, eqb, length, drop, Float, Err}
+use Rattle.std.specs.Prelude.{ℕ, ◌+◌, ◌≤◌, ◌<◌, ◌≡◌, Bool, false, ◌&&◌, List, ◌++◌, eqb, length, drop, Float, Ok, Err}
 use Rattle.std.proofs.Math.Nat.{zero-add}
 use Rattle.std.proofs.Common.{arith, ◌∙◌}
 use Rattle.std.proofs.Math.Path.{refl}
@@ -19,7 +19,7 @@ use Rattle.element.specs.Data.{Data, plain, sizes, span, Limit, one_zero, marker
 use Rattle.kind.specs.declared.Kind.{Kind}
 use Rattle.value.specs.declared.Span.{Span}
 use Rattle.value.specs.declared.Value.{Value}
-use Rattle.put.specs.Plan.{after_of, before_of, shape, is_of, write, deny, if_room}
+use Rattle.put.specs.Plan.{after_of, before_of, shape, is_of, write, deny, if_room, put_says, put_leaves, Puts}
 
 abbrev pub limit_of : Bool → Float → Limit
 limit_of b x = record { set = b; at = to_bits binary64 x }
@@ -81,11 +81,16 @@ pub room_enough : (xs bs : List ℕ) → length bs ≤ length xs → if_room (le
 unfolding if_room pick
 room_enough xs bs h = rw (le-leb (length bs) (length xs) h)
 
-pub all_put : (xs bs : List ℕ) {ys : List ℕ} → ys ≡ put_in xs 0 bs → length bs ≤ length xs → ys ≡ bs ++ drop (length bs) xs
+pub bytes_put : (xs bs : List ℕ) {ys : List ℕ} → ys ≡ put_in xs 0 bs → length bs ≤ length xs → ys ≡ bs ++ drop (length bs) xs
 unfolding put
-all_put xs bs o h = rw zero-add at (o ∙ put_in_lem xs 0 bs (omega arith))
+bytes_put xs bs o h = rw zero-add at (o ∙ put_in_lem xs 0 bs (omega arith))
 
-pub ruleset room = (room_less, room_enough, all_put)
+module _ (xs bs : List ℕ) {n : ℕ} where
+  pub all_put : {ys : List ℕ} → ys ≡ put_in xs 0 bs → length bs ≡ n → n ≤ length xs → Puts xs (if_room (length xs) bs) (Ok n) ys
+  unfolding put_says put_leaves
+  all_put o e h = let l : length bs ≤ length xs = omega arith in let t = room_enough xs bs l in (rw (t, e), rw t (bytes_put xs bs o l))
+
+pub ruleset room = (room_less, room_enough, bytes_put)
 
 -- ---- a value, by its case
 

@@ -7,8 +7,9 @@ use Rattle.std.proofs.Common.{◌∙◌, append_assoc, length-append, length-dro
 use Rattle.std.proofs.Math.ListN.{length, take}
 use Rattle.std.proofs.Math.Seq.{length-take-le}
 use Rattle.format.specs.declared.Fault.{Fault}
-use Rattle.format.specs.Answers.{Outcome, Read}
-use Rattle.spot.specs.Answers.{Spot}
+use Rattle.format.specs.Answers.{Outcome}
+use Rattle.format.specs.Laws.Answers.{Read}
+use Rattle.spot.specs.Laws.Answers.{Spot}
 use Rattle.format.specs.declared.Refusal.{Refusal}
 use Rattle.format.specs.declared.Refusal.TheVariants.{At}
 use Rattle.format.specs.Format.{Bytes}

@@ -3,7 +3,7 @@ use Rattle.std.specs.Prelude.{ℕ, ◌+◌, ◌-◌, ◌≤◌, ◌<◌, max, �
 use Rattle.std.proofs.Common.{arith, sym, ap, ◌∙◌, append_assoc, length-append, length-take-le}
 use Rattle.format.specs.declared.Fault.TheVariants as Fault
 use Rattle.format.specs.Answers.{Outcome}
-use Rattle.spot.specs.Answers.{Spot}
+use Rattle.spot.specs.Laws.Answers.{Spot}
 use Rattle.format.specs.declared.Refusal.{Refusal}
 use Rattle.format.specs.declared.Refusal.TheVariants.{At}
 use Rattle.format.specs.Format.{Bytes}

@@ -10,7 +10,7 @@ use Rattle.format.specs.Format.{pick}
 use Rattle.format.specs.ReadWrite.{pair_write, spelt, bit, each_write}
 use Rattle.format.specs.Laws.ReadWrite.{length_spelt, length_before}
 use Rattle.format.specs.Combinators.{pair, judged, via, seq, ◌then◌, number, count, fixed, flag, each, counted, sized, measured}
-use Rattle.format.specs.Answers.{Read}
+use Rattle.format.specs.Laws.Answers.{Read}
 use Rattle.format.specs.Laws.Seen.{seen, itself}
 use Rattle.format.specs.Laws.Back.{back_got}
 use Rattle.format.specs.Laws.Written.{behind as past, Stands, Held, Row}

@@ -1,16 +1,14 @@
-use Rattle.std.proofs.Common.{◌≡◌, ◌-◌, ◌∙◌, ℕ, List, length, drop, arith, length-drop, take_all, drop_of_length-le}
-use Rattle.std.proofs.Math.Nat.{zero-add}
-use Rattle.std.specs.List.{copy_within}
-use Rattle.buffer.specs.Laws.Laid.{down}
+use native.Mathlib.Omega.{arith}
+use mathlib.Core.Path.{refl}
+use lib.ListN.{length-set}
+use Rattle.shift.proofs.Loops.{lowered_first, lowered_next, lowered_last}
 use Rattle.shift.proofs.shift_down.Goals as goal
 
-copied_down : (by : ℕ) (p : List ℕ) → copy_within p by (length p) 0 ≡ down by p
-unfolding down
-copied_down by p = rw (zero-add, take_all (length p - by) (drop by p) (omega (arith, length-drop by p)))
+pub loop-from-init : goal.loop-from-init
+loop-from-init c = (lowered_first _ _, (refl, (omega arith, omega arith)))
 
-pub returns-then-by-p : goal.returns-then-by-p
-returns-then-by-p c = c.copy_within.ensures.after ∙ copied_down c.args.by c.args.p.now
+pub loop-from-preserved : goal.loop-from-preserved
+loop-from-preserved c = (lowered_next _ _ _ _ c.loop-from.invariant.0 (omega arith) (omega arith), (simp length-set c.loop-from.invariant.1.0, (omega arith, omega arith)))
 
-pub returns-else-by-p : goal.returns-else-by-p
-unfolding down
-returns-else-by-p c = let p = c.args.p.now in let z : length p - c.args.by ≡ 0 = omega arith in rw (drop_of_length-le p {i = c.args.by} (omega arith), z)
+pub returns : goal.returns
+returns c = lowered_last _ _ _ _ c.loop-from.invariant.0 (omega arith)

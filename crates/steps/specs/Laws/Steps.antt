@@ -1,5 +1,5 @@
 -- From rule to rule of a sound deck.
-use Rattle.std.specs.Prelude.{ℕ, ◌+◌, ◌-◌, ◌≤◌, ◌<◌, ◌≡◌, Bool, drop, Ok, Err}
+use Rattle.std.specs.Prelude.{ℕ, ◌+◌, ◌-◌, ◌≤◌, ◌<◌, ◌≡◌, Bool, drop, Ok, Err, IfErr}
 use Rattle.std.proofs.Common.{arith, ◌∙◌, length-append, drop_at}
 use Rattle.std.proofs.Math.Decide.{dec_lt}
 use Rattle.std.proofs.Math.Path.{refl, sym, ap}
@@ -10,14 +10,15 @@ use Rattle.std.proofs.Math.Dec.{leb}
 use borrow.Author.Tests.{le-leb, lt-leb, leb-true}
 use Rattle.std.proofs.Math.Seq.{take_all}
 use Rattle.format.specs.declared.Fault.{Fault}
-use Rattle.format.specs.Answers.{Read}
+use Rattle.format.specs.Laws.Answers.{Read}
+use Rattle.format.specs.Laws.Fault.{Own}
 use Rattle.format.specs.declared.Refusal.{Refusal}
 use Rattle.format.specs.declared.Refusal.TheVariants.{At}
 use Rattle.format.specs.Format.{got, Bytes, pick}
 use Rattle.format.specs.Laws.ReadWrite.{length_spelt}
 use Rattle.format.specs.ReadWrite.{value}
 use Rattle.format.specs.Combinators.{number, each}
-use Rattle.format.specs.Laws.Seen.{ok_parts, seen, itself, unlike, got_at, none, number_is, number_no}
+use Rattle.format.specs.Laws.Seen.{ok_parts, seen, seen_own, itself, unlike, got_at, none, number_is, number_no}
 use Rattle.format.specs.Laws.Fours.{fours_no}
 use Rattle.format.specs.Laws.Written.{Held, Row}
 use Rattle.format.specs.Laws.Back.{Where, stands_seen, stands_room, seen_ends}
@@ -152,6 +153,14 @@ module _ (s : List ℕ) (at : ℕ) where
 
   -- t is what the name was read as
   module _ {t : Read} (f : t ≡ name_read s at) where
+    pub name_own : IfErr t Own
+    unfolding name_read pick
+    name_own = rw f (go (leb 4 (length s - at)))
+      where
+        go : (b : Bool) → IfErr (pick b (seen none string s (at + 4)) (Err (At Fault.Cut at))) Own
+        go true = seen_own none string s (at + 4) refl
+        go false = tt
+
     pub name_got : {u m : ℕ} → t ≡ Ok (m, u) → m ≡ name_end s at
     unfolding name_end
     name_got h = ap (ended at) (sym h ∙ f)

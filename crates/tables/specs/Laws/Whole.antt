@@ -8,7 +8,8 @@ use Rattle.std.proofs.Math.Dec.{leb}
 use borrow.Author.Tests.{leb-true}
 use Rattle.format.specs.declared.Fault.{Fault}
 use Rattle.kind.specs.Answers.{Edition}
-use Rattle.format.specs.Answers.{Outcome, Read}
+use Rattle.format.specs.Answers.{Outcome}
+use Rattle.format.specs.Laws.Answers.{Read}
 use Rattle.scan.specs.Answers.{Scan}
 use Rattle.format.specs.declared.Refusal.{Refusal}
 use Rattle.format.specs.declared.Refusal.TheVariants.{At, Given}

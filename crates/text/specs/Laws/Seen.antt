@@ -3,13 +3,14 @@ use Prim.Native.Nat.{ℕ, ◌+◌, ◌-◌, ◌*◌, ◌<◌, ◌≤◌}
 use Rattle.std.proofs.Common.{add_assoc, arith, sym, ◌∙◌, Ok, Err}
 use Rattle.std.proofs.Math.Nat.{add-zero}
 use Rattle.std.proofs.Math.Decide.{dec_lt}
-use Rattle.std.specs.Prelude.{◌≡◌, List, length, drop}
+use Rattle.std.specs.Prelude.{◌≡◌, List, length, drop, IfErr}
 use Rattle.std.proofs.Math.Path.{refl, ap}
 use Rattle.std.proofs.Math.Seq.{drop-drop}
 use borrow.Author.Tests.{eq-eqb, ne_eqb}
 use Rattle.format.specs.declared.Fault.{Fault}
-use Rattle.format.specs.Answers.{Read}
-use Rattle.text.specs.Answers.{StringRead}
+use Rattle.format.specs.Laws.Answers.{Read}
+use Rattle.format.specs.Laws.Fault.{Own}
+use Rattle.text.specs.Laws.Answers.{StringRead}
 use Rattle.format.specs.declared.Refusal.{Refusal}
 use Rattle.format.specs.declared.Refusal.TheVariants.{At, Given}
 use Rattle.format.specs.Format.{Answer, got, refused, shift, mapped, and_then, pick, Bytes, Format}
@@ -59,6 +60,15 @@ text_parts e = (ap text_end e, (ap text_form e, ap text_units e))
 -- no String was refused
 pub text_unlike : {B : Type 0} {r : StringRead} {form : Form} {n m : ℕ} {why : Refusal} → r ≡ Ok (m, form, n) → r ≡ Err why → B
 text_unlike e h = absurd (let z : ◌≡◌ {A = ℕ} 0 1 = cc in omega arith)
+
+-- the refusal of a String is its own
+pub text_own : {A : Type 0} (f : A → Length) (a : Format A) (s : List ℕ) (at : ℕ) {r : StringRead} → r ≡ text_seen f a s at → IfErr r Own
+unfolding text_seen text_told
+text_own {A = A} f a s at e = rw e (go (a.read (drop at s)))
+  where
+    go : (q : Answer A) → IfErr (text_told at f q) Own
+    go (got x n) = tt
+    go (refused c p) = tt
 
 -- an answer, from what the code says of it
 pub record Valued {A : Type 0} (at : ℕ) (f : A → Length) (q : Answer A) (form : Form) (n m : ℕ) : Type 0 where

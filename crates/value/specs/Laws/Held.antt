@@ -3,7 +3,7 @@ use Rattle.std.specs.Prelude.{ℕ, ◌+◌, ◌≡◌, length, drop, Ok}
 use Rattle.std.proofs.Common.{◌∙◌}
 use mathlib.Core.List.{List, ◌++◌, append_assoc}
 use Rattle.std.proofs.Math.Seq.{drop-append_seam, drop-drop}
-use Rattle.format.specs.Answers.{Read}
+use Rattle.format.specs.Laws.Answers.{Read}
 use Rattle.format.specs.Format.{got, Bytes, Format}
 use Rattle.format.specs.Laws.Format.{bytes_drop}
 use Rattle.format.specs.ReadWrite.{pair_write}

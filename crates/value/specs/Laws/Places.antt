@@ -1,5 +1,5 @@
 -- Sound data by the places of their fields, as the code reads them.
-use Rattle.std.specs.Prelude.{ℕ, ◌+◌, ◌≡◌, refl, Bool, List, eqb, get_or, Ok, Err, not, T}
+use Rattle.std.specs.Prelude.{ℕ, ◌+◌, ◌<◌, ◌^◌, ◌≡◌, refl, Bool, List, eqb, get_or, Ok, Err, not, T}
 use Rattle.std.proofs.Common.{arith, zero-add, sym, ◌∙◌, Fits}
 use Rattle.std.proofs.Math.Path.{ap, ap₂}
 use Rattle.std.proofs.Math.ListN.{length}
@@ -8,7 +8,7 @@ use Rattle.std.specs.Float.{binary64}
 use Rattle.std.specs.Float.Ieee.{of_bits, nan_bits}
 use Rattle.std.specs.Int.{w8, w32}
 use Rattle.format.specs.declared.Fault.{Fault}
-use Rattle.format.specs.Answers.{Read}
+use Rattle.format.specs.Laws.Answers.{Read}
 use Rattle.value.specs.Answers.{Valued}
 use Rattle.format.specs.declared.Refusal.{Refusal}
 use Rattle.format.specs.declared.Refusal.TheVariants.{Given}
@@ -38,9 +38,12 @@ Holds a s f v = Where a s 0 (λ d. Ok (f d)) v
 -- ---- what a field's reader says
 
 module _ (s : List ℕ) (at : ℕ) {r : Read} {v m : ℕ} (bs : (i : ℕ) → Fits w8 (get_or s i 0)) where
-  pub number_fits : r ≡ seen itself (number 4) s at → r ≡ Ok (m, v) → Fits w32 v
+  pub number_fits : (k : ℕ) → r ≡ seen itself (number k) s at → r ≡ Ok (m, v) → v < 256 ^ k
   unfolding number
-  number_fits e h = record { fits = seen_fit (number 4) s at (bytes_all s bs) e h }
+  number_fits k e h = seen_fit (number k) s at (bytes_all s bs) e h
+
+  pub number_fits_4 : r ≡ seen itself (number 4) s at → r ≡ Ok (m, v) → Fits w32 v
+  number_fits_4 e h = record { fits = number_fits 4 e h }
 
   pub date_floats : r ≡ seen itself date s at → r ≡ Ok (m, v) → T (not (nan_bits binary64 v))
   unfolding date judged

@@ -1,11 +1,12 @@
 -- Laws of ../View.antt: the units of a String that was read, and which part a view is.
-use Rattle.std.specs.Prelude.{ℕ, ◌+◌, ◌-◌, ◌*◌, ◌≤◌, ◌<◌, ◌≡◌, refl, Bool, true, false, List, [], leb, length, take, drop, Ok, Err}
+use Rattle.std.specs.Prelude.{ℕ, ◌+◌, ◌-◌, ◌*◌, ◌≤◌, ◌<◌, ◌≡◌, refl, Bool, true, false, List, [], leb, length, take, drop, Ok, Err, IfErr}
 use Rattle.std.proofs.Common.{zero-add, arith, sym, ap, ◌∙◌}
 use Rattle.std.specs.Result.{IsErr}
 use borrow.Author.Tests.{leb-true, le-leb, lt-leb}
 use Rattle.format.specs.declared.Fault.{Fault}
 use Rattle.format.specs.Answers.{Outcome}
-use Rattle.text.specs.Answers.{StringRead}
+use Rattle.format.specs.Laws.Fault.{Own}
+use Rattle.text.specs.Laws.Answers.{StringRead}
 use Rattle.view.specs.Answers.{View}
 use Rattle.format.specs.declared.Refusal.{Refusal}
 use Rattle.format.specs.declared.Refusal.TheVariants.{At}
@@ -58,6 +59,17 @@ units_inside len (Ok (e, form, n)) w = rw w (go (leb e len) refl (leb (2 * n) e)
     go true f false g = tt
     go false f y g = tt
 units_inside len (Err why) w = rw w tt
+
+-- its refusal is its own where the String's is
+pub units_own : (len : ℕ) (t : StringRead) {v : View} → v ≡ units_of len t → IfErr t Own → IfErr v Own
+unfolding units_of pick
+units_own len (Ok (e, form, n)) w o = rw w (go (leb e len) (leb (2 * n) e))
+  where
+    go : (x y : Bool) → IfErr {T = ℕ × ℕ × Form} (pick x (pick y (Ok (e - 2 * n, 2 * n, form)) (Err (At Fault.Cut 0))) (Err (At Fault.Cut 0))) Own
+    go true true = tt
+    go true false = tt
+    go false y = tt
+units_own len (Err why) w o = rw w o
 
 -- a view that lies within a slice; else it is refused
 unfoldable pub within : ℕ → View → View

@@ -4,7 +4,7 @@ use native.Mathlib.Omega.{arith}
 use Rattle.std.proofs.Math.Path.{◌≡◌, sym, ap}
 use Rattle.std.proofs.Common.{◌∙◌}
 use Rattle.std.proofs.Math.ListN.{length}
-use Rattle.format.specs.Answers.{Read}
+use Rattle.format.specs.Laws.Answers.{Read}
 use Rattle.kind.specs.Answers.{Row}
 use Rattle.format.specs.declared.Refusal.{Refusal}
 use Rattle.format.specs.Laws.ReadWrite.{length_spelt}

@@ -1,6 +1,6 @@
 use native.Mathlib.Omega.{arith}
 use Rattle.rule.specs.Laws.Rule.{rule_past}
-use Rattle.format.specs.Laws.Parts.{part_got, part_no, part_ends}
+use Rattle.format.specs.Laws.Parts.{part_got, part_further, part_ends}
 use Rattle.whole_rule.proofs.rule_at.Goals as goal
 
 pub returns-then-s-at : goal.returns-then-s-at
@@ -13,4 +13,4 @@ pub returns-in-Ok : goal.returns-in-Ok
 returns-in-Ok c = part_got _ _ _ _ c.read_rule-r.ensures c.in-Ok.is
 
 pub returns-in-Err : goal.returns-in-Err
-returns-in-Err c = part_no _ _ c.args.s.now c.args.at c.if-s-at.false (omega arith) c.read_rule-r.ensures c.in-Err.is c.further.ensures
+returns-in-Err c = part_further _ _ c.args.s.now c.args.at c.if-s-at.false (omega arith) c.read_rule-r.ensures c.in-Err.is c.further.ensures

@@ -14,16 +14,16 @@ pub returns-in_err-e : goal.returns-in_err-e
 returns-in_err-e c = last_unnamed _ _ _ _ _ _ c.if-f-eq0.false c.name_end.ensures c.in_err-e.was
 
 pub returns-in_err-t : goal.returns-in_err-t
-returns-in_err-t c = word_no_list _ _ _ _ c.if-f-eq0.false (name_got _ _ c.name_end.ensures c.in_ok-e.was) c.list_at.ensures c.in_err-t.was (search rules)
+returns-in_err-t c = word_no_list _ _ _ _ c.if-f-eq0.false (name_got _ _ c.name_end.ensures c.in_ok-e.was) c.list_at.ensures.0 c.in_err-t.was (search rules)
 
 pub returns-then-count-ge64 : goal.returns-then-count-ge64
-returns-then-count-ge64 c = word_full _ _ _ _ c.if-f-eq0.false (name_got _ _ c.name_end.ensures c.in_ok-e.was) c.list_at.ensures c.in_ok-t.was c.if-count-ge64.true
+returns-then-count-ge64 c = word_full _ _ _ _ c.if-f-eq0.false (name_got _ _ c.name_end.ensures c.in_ok-e.was) c.list_at.ensures.0 c.in_ok-t.was c.if-count-ge64.true
 
 pub returns-then-not-text : goal.returns-then-not-text
-returns-then-not-text c = word_text _ _ _ _ c.if-f-eq0.false (name_got _ _ c.name_end.ensures c.in_ok-e.was) c.list_at.ensures c.in_ok-t.was (omega arith) (sym c.is_text-text.ensures ∙ c.if-not-text.true)
+returns-then-not-text c = word_text _ _ _ _ c.if-f-eq0.false (name_got _ _ c.name_end.ensures c.in_ok-e.was) c.list_at.ensures.0 c.in_ok-t.was (omega arith) (sym c.is_text-text.ensures ∙ c.if-not-text.true)
 
 pub lengthen-requires : goal.lengthen-requires
 lengthen-requires c = let w = name_within c.args.buf.now c.args.f.start (omega (arith, c.requires.order, c.requires.inside, c.requires.room)) in (omega (arith, w, name_got _ _ c.name_end.ensures c.in_ok-e.was), c.requires.short, search rules, sym c.is_text-text.ensures ∙ c.if-not-text.false)
 
 pub returns : goal.returns
-returns c = word_done _ _ _ _ c.if-f-eq0.false (name_got _ _ c.name_end.ensures c.in_ok-e.was) c.list_at.ensures c.in_ok-t.was _ _ (omega arith) (bytes_all c.args.word.now c.shared_slice_known-1.given) (sym c.is_text-text.ensures ∙ c.if-not-text.false) c.lengthen.ensures
+returns c = word_done _ _ _ _ c.if-f-eq0.false (name_got _ _ c.name_end.ensures c.in_ok-e.was) c.list_at.ensures.0 c.in_ok-t.was _ _ (omega arith) (bytes_all c.args.word.now c.shared_slice_known-1.given) (sym c.is_text-text.ensures ∙ c.if-not-text.false) c.lengthen.ensures

@@ -10,4 +10,4 @@ pub returns-in_err-kind : goal.returns-in_err-kind
 returns-in_err-kind c = (search (rules, carries_none, c.in_ok-q.was, c.in_err-kind.was), no_inside _ _ c.from_residual-in_err-kind.ensures.0)
 
 pub returns : goal.returns
-returns c = (search (rules, carries_is, c.in_ok-q.was, c.in_ok-kind.was), c.data_word.ensures.1)
+returns c = (search (rules, carries_is, c.in_ok-q.was, c.in_ok-kind.was), c.data_word.ensures.1.0)
