@@ -37,13 +37,8 @@ fn judge(bytes: &[u8], base: &mut Text) -> Option<Verdict> {
     }
     let [first, second, third] = &strings;
     let wanted = Answer::packed(reader.eight()?);
-    let mut wanted_effect = Text::new();
-    packing::unpack(
-        &mut reader,
-        base.as_slice(),
-        first.as_slice(),
-        &mut wanted_effect,
-    )?;
+    let mut effect = Text::new();
+    packing::unpack(&mut reader, base.as_slice(), first.as_slice(), &mut effect)?;
     if !reader.rest.is_empty() {
         return None;
     }
@@ -54,7 +49,7 @@ fn judge(bytes: &[u8], base: &mut Text) -> Option<Verdict> {
         second: second.as_slice(),
         third: third.as_slice(),
     };
-    let (answer, alike) = vector.run(wanted_effect.as_slice())?;
+    let (answer, alike) = vector.run(effect.as_slice())?;
     if call == Call::Base {
         *base = *first;
     }
